@@ -1,0 +1,36 @@
+// What the bench holds beside its table of purses: the ether (the messages that stand), the issuer's archive, and the purse count.
+// Each changes by value: a method takes it and hands back its next state.
+use purse::Details;
+use purse::Message;
+use purse::Name;
+
+// A log entry that the issuer has collected, and the purse that logged it.
+pub struct Entry {
+    pub by: Name,
+    pub details: Details,
+}
+
+// The messages that stand, from place 0; unused places are all zero.
+pub struct Ether {
+    pub places: [Message; 256],
+    pub count: u16,
+}
+
+// The entries collected, from place 0; unused places are all zero.
+pub struct Archive {
+    pub places: [Entry; 256],
+    pub count: u16,
+}
+
+// The ether's next state, and whether a message was lost on the way.
+pub struct Changed {
+    pub ether: Ether,
+    pub lost: bool,
+}
+
+// All that a bench holds beside its table.
+pub struct Desk {
+    pub purses: u8,
+    pub ether: Ether,
+    pub archive: Archive,
+}

@@ -1,0 +1,32 @@
+-- "An event is 12 bytes, numbers big-endian: kind, purse, counterparty, spare (0), number (4), amount (4)."
+use Prim.Native.Nat.{ℕ, _+_, _*_}
+use mathlib.Core.Bool.{Bool, _&&_, cond}
+use mathlib.Core.List.{List}
+use lib.ListN.{length, getD}
+use lib.Dec.{eqb}
+use Rattle.rules.specs.declared.Event.{Event}
+use Rattle.rules.specs.declared.Event.the-variants.{Malformed, StartFrom, StartTo, Deliver, Abort, Lose, Collect}
+use Rattle.rules.specs.Bench.{called}
+
+-- four bytes from a place on, big-endian
+abbrev pub number : List ℕ → ℕ → ℕ
+number l i = ((getD l i 0 * 256 + getD l (i + 1) 0) * 256 + getD l (i + 2) 0) * 256 + getD l (i + 3) 0
+
+-- "Fields a kind doesn't use are 0: counterparty and amount outside starts, number in abort and collect, purse in lose";
+-- kinds "0 and 7 to 255 are malformed"
+abbrev pub decodedAs : ℕ → ℕ → ℕ → ℕ → ℕ → Event
+decodedAs kind purse other num amount =
+    cond (eqb kind 1) (StartFrom (called purse) (called other) (record { 0 = num }) (record { 0 = amount }))
+    (cond (eqb kind 2) (StartTo (called purse) (called other) (record { 0 = num }) (record { 0 = amount }))
+    (cond (eqb kind 3) (cond (eqb other 0 && eqb amount 0) (Deliver (called purse) num) Malformed)
+    (cond (eqb kind 4) (cond (eqb other 0 && eqb num 0 && eqb amount 0) (Abort (called purse)) Malformed)
+    (cond (eqb kind 5) (cond (eqb purse 0 && eqb other 0 && eqb amount 0) (Lose num) Malformed)
+    (cond (eqb kind 6) (cond (eqb other 0 && eqb num 0 && eqb amount 0) (Collect (called purse)) Malformed)
+    Malformed)))))
+
+-- bytes of any length and content
+unfoldable pub decoded : List ℕ → Event
+decoded l =
+    cond (eqb (length l) 12 && eqb (getD l 3 0) 0)
+    (decodedAs (getD l 0 0) (getD l 1 0) (getD l 2 0) (number l 4) (number l 8))
+    Malformed
