@@ -3,20 +3,24 @@
 use purse::Details;
 use purse::Message;
 use purse::Name;
+use purse::Purse;
 
 // A log entry that the issuer has collected, and the purse that logged it.
+#[repr(C)]
 pub struct Entry {
     pub by: Name,
     pub details: Details,
 }
 
 // The messages that stand, from place 0; unused places are all zero.
+#[repr(C)]
 pub struct Ether {
     pub places: [Message; 256],
     pub count: u16,
 }
 
 // The entries collected, from place 0; unused places are all zero.
+#[repr(C)]
 pub struct Archive {
     pub places: [Entry; 256],
     pub count: u16,
@@ -29,8 +33,30 @@ pub struct Changed {
 }
 
 // All that a bench holds beside its table.
+#[repr(C)]
 pub struct Desk {
     pub purses: u8,
     pub ether: Ether,
     pub archive: Archive,
+}
+
+// What a bench holds: its table of 32 purse records, and its desk.
+#[repr(C)]
+pub struct Held {
+    pub table: [Purse; 32],
+    pub desk: Desk,
+}
+
+// What a call answers, and what the bench then holds.
+#[repr(C)]
+pub struct Answered {
+    pub answer: u8,
+    pub held: Held,
+}
+
+// The claims figure, beside the answer.
+#[repr(C)]
+pub struct Figure {
+    pub answer: u8,
+    pub claims: u32,
 }

@@ -6,12 +6,15 @@ ghost use Rattle.purse.specs.Details.{zeroDetails, sameDetails, zeroMess
 ghost use Rattle.purse.specs.Purse.{ceiling, openedPurse, zeroPurse};
 
 // The place of a purse in the table, from 0.
+#[repr(C)]
 pub struct Name(pub u8);
 
 // A sequence number.
+#[repr(C)]
 pub struct Seq(pub u32);
 
 // An amount of money.
+#[repr(C)]
 pub struct Amount(pub u32);
 
 impl Name {
@@ -19,6 +22,7 @@ impl Name {
 }
 
 // Payment details.
+#[repr(C)]
 pub struct Details {
     pub payer: Name,
     pub payerseq: Seq,
@@ -28,12 +32,14 @@ pub struct Details {
 }
 
 // Kind 1 request, 2 value, 3 acknowledge.
+#[repr(C)]
 pub struct Message {
     pub kind: u8,
     pub details: Details,
 }
 
 // Status 0 idle, 1 epr, 2 epv, 3 epa; `logged` of the log's places are used.
+#[repr(C)]
 pub struct Purse {
     pub balance: Amount,
     pub next: Seq,
@@ -61,6 +67,7 @@ pub enum CardEvent {
 }
 
 // What a card answers: the number, the record, and the message to send or the entry collected, or all zero.
+#[repr(C)]
 pub struct CardAnswer {
     pub answer: u8,
     pub purse: Purse,

@@ -1,5 +1,5 @@
--- How the bench's lists lie in the lent table of 32 records and the desk's 256 and 256 places: each list from place 0, zero behind
--- it. `heldStep` is the whole step, from a table, a desk and an event's bytes to the answer, the table and the desk: every entry's
+-- How the bench's lists lie in the lent table of 32 records and the desk's 256 and 256 places (`Held`): each list from place 0, zero
+-- behind it. `heldStep` is the whole step, from a table, a desk and an event's bytes to the answer, the table and the desk: every entry's
 -- contract cites it.
 use Prim.Native.Nat.{ℕ}
 use mathlib.Core.Bool.{Bool, _&&_, not, cond}
@@ -13,7 +13,9 @@ use Rattle.purse.specs.Lists.{all, padded}
 use Rattle.purse.specs.Details.{zeroDetails, zeroMessage, sameDetails, sameMessage}
 use Rattle.purse.specs.Purse.{zeroPurse, logPlaces}
 use Rattle.desk.specs.declared.Entry.{Entry}
-use Rattle.desk.specs.declared.Desk.{Desk}
+use Rattle.desk.specs.declared.Held.{Held}
+use Rattle.desk.specs.declared.Answered.{Answered}
+use Rattle.desk.specs.declared.Figure.{Figure}
 use Rattle.desk.specs.Desk.{zeroEntry, sameEntry}
 use Rattle.rules.specs.Bench.{Bench}
 use Rattle.rules.specs.Table.{tableOk}
@@ -21,11 +23,6 @@ use Rattle.rules.specs.Events.{decoded}
 use Rattle.rules.specs.Steps.{acting}
 use Rattle.rules.specs.Run.{openingNumber, opened}
 use Rattle.rules.specs.Paid.{claims}
-
--- the lent table and the desk
-pub record Held : Type 0 where
-  pub table : List Purse
-  pub desk : Desk
 
 abbrev pub laid : Bench → Held
 laid b =
@@ -74,12 +71,8 @@ heldOk h =
     && placesOk isZeroEntry 256 (h .desk .archive .count) (h .desk .archive .places)
     && tableOk (seen h)
 
-pub record HeldAnswer : Type 0 where
-  pub answer : ℕ
-  pub held : Held
-
 -- an event: 2 leaves table and desk as they were
-unfoldable pub heldStep : Held → List ℕ → HeldAnswer
+unfoldable pub heldStep : Held → List ℕ → Answered
 heldStep h l =
     cond (heldOk h)
     (record { answer = acting (seen h) (decoded l) .answer; held = laid (acting (seen h) (decoded l) .bench) })
@@ -94,15 +87,11 @@ heldAnswers h [] = []
 heldAnswers h (l ∷ ls) = heldStep h l .answer ∷ heldAnswers (heldStep h l .held) ls
 
 -- "Opening: lent table not 32 records (2), 20, 21"; "Reading and opening ignore what the table held"
-unfoldable pub heldOpening : Held → List ℕ → HeldAnswer
+unfoldable pub heldOpening : Held → List ℕ → Answered
 heldOpening h bs =
     cond (not (eqb (length (h .table)) 32)) (record { answer = 2; held = h })
     (cond (eqb (openingNumber bs) 0) (record { answer = 0; held = laid (opened bs) })
     (record { answer = openingNumber bs; held = h }))
-
-pub record Figure : Type 0 where
-  pub answer : ℕ
-  pub claims : ℕ
 
 -- the claims figure: 2, with figure 0, where the table is not well formed
 unfoldable pub heldClaims : Held → Figure
