@@ -10,3 +10,4 @@ pub mod Answers
 pub mod Money
 pub mod Numbers
 pub mod Unique
+pub mod Edges
