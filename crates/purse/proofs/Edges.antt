@@ -8,7 +8,7 @@ use Rattle.purse.specs.declared.Details.{Details}
 use Rattle.purse.specs.declared.Purse.{Purse}
 use Rattle.purse.specs.declared.CardEvent.the-variants.{StartFrom, StartTo, Deliver, Abort}
 use Rattle.purse.specs.Details.{zeroDetails, zeroMessage, sameDetails, legal, named, asPayer, asPayee, entryOk, absent}
-use Rattle.purse.specs.Purse.{idle, epr, idleOk, busyOk, placeOk, logOk, wellFormed}
+use Rattle.purse.specs.Purse.{idle, epr, epa, idleOk, busyOk, placeOk, logOk, wellFormed}
 use Rattle.purse.specs.Step.{refusedBy, done, expected, fromNumber, toNumber, deliverNumber, abortNumber, startFrom, startTo, deliverTo, abortBy}
 use Rattle.purse.specs.Card.{stepBy}
 
@@ -30,6 +30,11 @@ keeping n l = record { balance = record { 0 = 300 }; next = record { 0 = 9 }; st
 abbrev waiting : Purse
 waiting =
     record { balance = record { 0 = 300 }; next = record { 0 = 2 }; status = epr; details = payment 1; log = replicate 8 zeroDetails; logged = 0 }
+
+-- and in epa, once it has paid
+abbrev paidOff : Purse
+paidOff =
+    record { balance = record { 0 = 0 }; next = record { 0 = 2 }; status = epa; details = payment 1; log = replicate 8 zeroDetails; logged = 0 }
 
 -- seven entries
 abbrev seven : List Details
@@ -65,6 +70,8 @@ pub record Edges : Type 0 where
   pub epr-abort : stepBy waiting (record { 0 = 0 }) Abort ≡ done (resting 300 2) zeroMessage zeroDetails
   -- the all-zero message is not the one expected, though the details are all zero too
   pub zero-message : stepBy (resting 300 1) (record { 0 = 0 }) (Deliver zeroMessage) ≡ refusedBy 13 (resting 300 1)
+  -- the request expected: the balance falls and the value is sent
+  pub request-taken : stepBy waiting (record { 0 = 0 }) (Deliver (record { kind = 1; details = payment 1 })) ≡ done paidOff (record { kind = 2; details = payment 1 }) zeroDetails
   -- a request with another number of the payer
   pub other-number : stepBy waiting (record { 0 = 0 }) (Deliver (record { kind = 1; details = payment 2 })) ≡ refusedBy 13 waiting
 
@@ -91,5 +98,6 @@ edges =
       idle-abort = refl;
       epr-abort = refl;
       zero-message = refl;
+      request-taken = refl;
       other-number = refl;
     }

@@ -6,7 +6,7 @@ pub mod Log
 pub mod Rules
 pub mod Steps
 pub mod Keep
-pub mod Answers
+pub mod Refused
 pub mod Money
 pub mod Numbers
 pub mod Unique

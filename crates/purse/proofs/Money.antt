@@ -19,7 +19,7 @@ use Rattle.purse.specs.Card.{stepBy}
 use Rattle.purse.proofs.Bools.{and-l, which}
 use Rattle.purse.proofs.Payments.{is-same}
 use Rattle.purse.proofs.Steps.{deliver-passed, deliver-pay}
-use Rattle.purse.proofs.Answers.{accepted, delivered-done}
+use Rattle.purse.proofs.Refused.{accepted, delivered-done}
 
 -- what a field is after a step, where it is so after the step is done and after an abort's two ways
 module _ {A : Type 0} (f : Purse → A) (p : Purse) where

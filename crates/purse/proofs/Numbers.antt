@@ -17,7 +17,7 @@ use Rattle.purse.specs.Purse.{epr, epv}
 use Rattle.purse.specs.Step.{unless, begunWith, fromDetails, toDetails, delivered, deliverNumber, fromNumber, toNumber, abortNumber, collectNumber, startFrom, startTo, deliverTo, abortBy, collectBy}
 use Rattle.purse.specs.Card.{stepBy}
 use Rattle.purse.proofs.Bools.{which}
-use Rattle.purse.proofs.Answers.{accepted}
+use Rattle.purse.proofs.Refused.{accepted}
 use Rattle.purse.proofs.Money.{unless-keeps, aborted-keeps}
 
 abbrev pub starts : CardEvent → Bool
