@@ -4,3 +4,5 @@ pub mod Facts
 pub mod Places
 pub mod Puts
 pub mod Purses
+pub mod Ladders
+pub mod Moves
