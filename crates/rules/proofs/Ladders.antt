@@ -2,12 +2,12 @@
 -- Assumes nothing.
 use Prim.Native.Nat.{ℕ, _≤_}
 use mathlib.Core.Path.{_≡_, refl}
-use mathlib.Core.Bool.{Bool, true, false, not}
+use mathlib.Core.Bool.{Bool, true, false, not, cond}
 use mathlib.Core.Logic.{⊎-elim}
-use mathlib.Core.List.{List, [], _∷_}
+use mathlib.Core.List.{List, [], _∷_, _++_}
 use lib.Dec.{leb, eqb}
 use native.Mathlib.Omega.{arith}
-use borrow.Author.Tests.{leb-true, eqb-false, not-true}
+use borrow.Author.Tests.{leb-true, eqb-false, ne-eqb, not-true}
 use Rattle.purse.specs.Lists.{all}
 use Rattle.purse.specs.Tests.{Test, first}
 use Rattle.purse.proofs.Bools.{and-l, and-r, which}
@@ -32,4 +32,14 @@ first-high (t ∷ ts) h n =
     ⊎-elim
     (λ (e : t .applies ≡ true). rw e (leb-true _ _ (and-l (leb 2 (t .number)) (all (λ (t : Test). leb 2 (t .number)) ts) h)))
     (λ (e : t .applies ≡ false). rw e (first-high ts (and-r (leb 2 (t .number)) (all (λ (t : Test). leb 2 (t .number)) ts) h) (rw e at n)))
+    (which (t .applies))
+
+-- two lists, one behind the other
+pub first-append : (ts us : List Test) → all (λ (t : Test). leb 2 (t .number)) ts ≡ true → first (ts ++ us) ≡ cond (eqb (first ts) 0) (first us) (first ts)
+first-append [] us h = refl
+first-append (t ∷ ts) us h =
+    let l : 2 ≤ t .number = leb-true _ _ (and-l (leb 2 (t .number)) (all (λ (t : Test). leb 2 (t .number)) ts) h) in
+    ⊎-elim
+    (λ (e : t .applies ≡ true). rw (e, ne-eqb (t .number) 0 (λ (z : t .number ≡ 0). omega arith)))
+    (λ (e : t .applies ≡ false). rw e (first-append ts us (and-r (leb 2 (t .number)) (all (λ (t : Test). leb 2 (t .number)) ts) h)))
     (which (t .applies))

@@ -6,3 +6,6 @@ pub mod Puts
 pub mod Purses
 pub mod Ladders
 pub mod Moves
+pub mod Kept
+pub mod History
+pub mod Orders

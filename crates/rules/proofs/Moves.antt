@@ -115,8 +115,8 @@ module _ (b : Bench) where
       (which (ltb (length (b .messages)) 256))
 
   -- a test of the bench's own
-  pub by-test : (T : Answer → Type 0) (x : Bool) (n : ℕ) (a : Answer) → T (refused n b) → (x ≡ false → T a) → T (cond x (refused n b) a)
-  by-test T true n a f g = f
+  pub by-test : (T : Answer → Type 0) (x : Bool) (n : ℕ) (a : Answer) → (x ≡ true → T (refused n b)) → (x ≡ false → T a) → T (cond x (refused n b) a)
+  by-test T true n a f g = f refl
   by-test T false n a f g = g refl
 
 module _ (b : Bench) (t : Table b) (Q : Bench → List Details → List Details → Type 0) (v : Moves b Q) where
@@ -239,18 +239,18 @@ module _ (b : Bench) (t : Table b) (Q : Bench → List Details → List Details 
   unfolding acting
   event-moves Malformed = v .stays
   event-moves (StartFrom p o s a) =
-      by-test b Quiet (noPurse b (p .0)) 4 _ (v .stays) (λ hp.
-      by-test b Quiet (noPurse b (o .0)) 6 _ (v .stays) (λ ho. from-moves (p .0) o s a (leb-false _ _ hp) (leb-false _ _ ho)))
+      by-test b Quiet (noPurse b (p .0)) 4 _ (λ no. v .stays) (λ hp.
+      by-test b Quiet (noPurse b (o .0)) 6 _ (λ no. v .stays) (λ ho. from-moves (p .0) o s a (leb-false _ _ hp) (leb-false _ _ ho)))
   event-moves (StartTo p o s a) =
-      by-test b Quiet (noPurse b (p .0)) 4 _ (v .stays) (λ hp.
-      by-test b Quiet (noPurse b (o .0)) 6 _ (v .stays) (λ ho. to-moves (p .0) o s a (leb-false _ _ hp) (leb-false _ _ ho)))
+      by-test b Quiet (noPurse b (p .0)) 4 _ (λ no. v .stays) (λ hp.
+      by-test b Quiet (noPurse b (o .0)) 6 _ (λ no. v .stays) (λ ho. to-moves (p .0) o s a (leb-false _ _ hp) (leb-false _ _ ho)))
   event-moves (Deliver p i) =
-      by-test b (Loud (messageAt b i)) (noPurse b (p .0)) 4 _ (v .stays) (λ hp.
-      by-test b (Loud (messageAt b i)) (noMessage b i) 5 _ (v .stays) (λ hi.
+      by-test b (Loud (messageAt b i)) (noPurse b (p .0)) 4 _ (λ no. v .stays) (λ hp.
+      by-test b (Loud (messageAt b i)) (noMessage b i) 5 _ (λ no. v .stays) (λ hi.
       deliver-moves (p .0) (messageAt b i) (leb-false _ _ hp) (times-at sameMessage message-equal message-same (b .messages) i zeroMessage (leb-false _ _ hi))))
-  event-moves (Abort p) = by-test b Quiet (noPurse b (p .0)) 4 _ (v .stays) (λ hp. abort-moves (p .0) (leb-false _ _ hp))
-  event-moves (Lose i) = by-test b Quiet (noMessage b i) 5 _ (v .stays) (λ hi. v .drop i (leb-false _ _ hi))
-  event-moves (Collect p) = by-test b Quiet (noPurse b (p .0)) 4 _ (v .stays) (λ hp. collect-moves (p .0) (leb-false _ _ hp))
+  event-moves (Abort p) = by-test b Quiet (noPurse b (p .0)) 4 _ (λ no. v .stays) (λ hp. abort-moves (p .0) (leb-false _ _ hp))
+  event-moves (Lose i) = by-test b Quiet (noMessage b i) 5 _ (λ no. v .stays) (λ hi. v .drop i (leb-false _ _ hi))
+  event-moves (Collect p) = by-test b Quiet (noPurse b (p .0)) 4 _ (λ no. v .stays) (λ hp. collect-moves (p .0) (leb-false _ _ hp))
 
   -- every step of a well-formed bench is one of the moves
   pub step-moves : tableOk b ≡ true → (l : List ℕ) → Q (step b l .bench) (movedBy 1 b l) (movedBy 2 b l)
