@@ -9,3 +9,4 @@ pub mod Moves
 pub mod Kept
 pub mod History
 pub mod Orders
+pub mod Answers
