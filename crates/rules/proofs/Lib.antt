@@ -10,3 +10,6 @@ pub mod Kept
 pub mod History
 pub mod Orders
 pub mod Answers
+pub mod Opened
+pub mod Stopped
+pub mod Safe
