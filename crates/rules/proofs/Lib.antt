@@ -13,3 +13,4 @@ pub mod Answers
 pub mod Opened
 pub mod Stopped
 pub mod Safe
+pub mod Carried
