@@ -14,3 +14,4 @@ pub mod Opened
 pub mod Stopped
 pub mod Safe
 pub mod Carried
+pub mod Worked
