@@ -15,3 +15,4 @@ pub mod Stopped
 pub mod Safe
 pub mod Carried
 pub mod Worked
+pub mod Demands
