@@ -16,3 +16,4 @@ pub mod Safe
 pub mod Carried
 pub mod Worked
 pub mod Demands
+pub mod Broken

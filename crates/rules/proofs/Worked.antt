@@ -92,6 +92,7 @@ pub record Worked : Type 0 where
   -- one price twice
   pub crossed-logs : amounts (loggedBy (run start crossed) 0 ++ loggedBy (run start crossed) 1) ≡ 300 ∷ 300 ∷ []
   pub crossed-balances : balances (run start crossed) ≡ 700 ∷ 500 ∷ []
+  pub crossed-arrived : amounts (arrived start crossed) ≡ 300 ∷ []
   pub crossed-matched : matched (run start crossed) 0 ≡ []
   pub crossed-claims : claims (run start collected) ≡ 0
   -- not opened by the rules
@@ -112,6 +113,7 @@ worked =
       eight-paid = refl;
       crossed-logs = refl;
       crossed-balances = refl;
+      crossed-arrived = refl;
       crossed-matched = refl;
       crossed-claims = refl;
       forged-obeys = refl;
