@@ -3,7 +3,7 @@
 -- of specs/ (but `order`, document 01's lists of tests, of Orders.antt); the proofs are cited.
 -- Assumes nothing.
 use Prim.Native.Nat.{ℕ, _+_, _≤_, _<_}
-use mathlib.Core.Path.{_≡_, ap, _∙_}
+use mathlib.Core.Path.{_≡_}
 use mathlib.Core.Bool.{true}
 use mathlib.Core.List.{List, _++_, map}
 use lib.ListN.{length, getD}
@@ -22,7 +22,7 @@ use Rattle.rules.specs.Laid.{laid, seen, heldOk, heldStep, heldRun, held
 use Rattle.rules.specs.HeldPaid.{heldPurse, heldBalance, heldPaid, heldArrived}
 use Rattle.rules.proofs.Kept.{keep-step}
 use Rattle.rules.proofs.Orders.{order, answer-order}
-use Rattle.rules.proofs.Answers.{refused-same, others-same}
+use Rattle.rules.proofs.Refusals.{refused-same, others-same}
 use Rattle.rules.proofs.Opened.{opened-ok, opened-never-two}
 use Rattle.rules.proofs.Safe.{sum-safe, arrived-paid, paid-once, arrived-once, stopped-safe, stops-done}
 use Rattle.rules.proofs.Carried as lent

@@ -9,7 +9,7 @@ use lib.ListN.{length, getD}
 use lib.Seq.{set-getD}
 use lib.Dec.{ltb, leb, eqb}
 use native.Mathlib.Omega.{arith}
-use borrow.Author.Tests.{leb-true, leb-false, ltb-true, eqb-true, eqb-false, ne-eqb, lt-leb, le-leb}
+use borrow.Author.Tests.{leb-false, ltb-true, eqb-true, eqb-false, ne-eqb, lt-leb, le-leb}
 use Rattle.purse.specs.declared.Name.{Name}
 use Rattle.purse.specs.declared.Seq.{Seq}
 use Rattle.purse.specs.declared.Amount.{Amount}

@@ -3,32 +3,30 @@
 -- and a name above 31 (4, 6). What is done answers 0, or 1 where a message is sent and 256 stand: the last test of a list, so that 0
 -- means that none applies.
 -- Assumes nothing.
-use Prim.Native.Nat.{ℕ, _+_, _≤_, _<_}
-use mathlib.Core.Path.{_≡_, refl, _∙_, sym, ap}
+use Prim.Native.Nat.{ℕ, _+_, _<_}
+use mathlib.Core.Path.{_≡_, refl, _∙_, sym}
 use mathlib.Core.Bool.{Bool, true, false, _&&_, _||_, not, cond}
 use mathlib.Core.Logic.{⊎-elim}
 use mathlib.Core.List.{List, [], _∷_, _++_}
 use lib.ListN.{length}
 use lib.Dec.{ltb, leb, eqb}
 use native.Mathlib.Omega.{arith}
-use borrow.Author.Tests.{leb-true, leb-false, ltb-true, ltb-false, eqb-true, eqb-false, eq-eqb, ne-eqb, le-ltb, lt-ltb, le-leb, lt-leb, not-true}
+use borrow.Author.Tests.{leb-true, leb-false, eqb-true, eqb-false, eq-eqb, ne-eqb, le-ltb, lt-ltb, lt-leb}
 use Rattle.purse.specs.declared.Name.{Name}
 use Rattle.purse.specs.declared.Seq.{Seq}
 use Rattle.purse.specs.declared.Amount.{Amount}
 use Rattle.purse.specs.declared.Message.{Message}
-use Rattle.purse.specs.declared.Purse.{Purse}
-use Rattle.purse.specs.declared.CardAnswer.{CardAnswer}
 use Rattle.purse.specs.Lists.{all}
 use Rattle.purse.specs.Tests.{Test, _⇒_, first}
 use Rattle.purse.specs.Details.{acknowledge, zeroMessage, sameMessage, legal}
-use Rattle.purse.specs.Purse.{idle, lastSeq, logPlaces, ceiling, wellFormed}
+use Rattle.purse.specs.Purse.{idle, lastSeq, logPlaces, ceiling}
 use Rattle.purse.specs.Step as card
 use Rattle.purse.specs.Step.{fromNumber, toNumber, deliverNumber, abortNumber, collectNumber, expected, delivered, deliverTo, abortBy, collectBy}
 use Rattle.purse.proofs.Bools.{which}
 use Rattle.purse.proofs.Count.{times-at}
 use Rattle.rules.specs.declared.Event.{Event}
 use Rattle.rules.specs.declared.Event.the-variants.{Malformed, StartFrom, StartTo, Deliver, Abort, Lose, Collect}
-use Rattle.rules.specs.Bench.{Bench, called, purseAt, messageAt}
+use Rattle.rules.specs.Bench.{Bench, purseAt, messageAt}
 use Rattle.rules.specs.Table.{tableOk}
 use Rattle.rules.specs.Events.{decoded}
 use Rattle.rules.specs.Steps.{Answer, carried, archiving, acting, step, noPurse, noMessage}

@@ -2,25 +2,23 @@
 -- Assumes nothing.
 use Prim.Native.Nat.{ℕ, zero, suc, _+_, _-_, _≤_, _<_}
 use mathlib.Core.Path.{_≡_, refl, _∙_, sym, ap}
-use mathlib.Core.Bool.{Bool, true, false, _&&_, _||_, not}
+use mathlib.Core.Bool.{Bool, true, false, _&&_, _||_}
 use mathlib.Core.Logic.{_⊎_, inl, inr, ⊎-elim}
 use mathlib.Core.List.{List, [], _∷_, _++_}
 use lib.ListN.{length, getD, take, drop, set, length-drop}
 use lib.Seq.{take-suc-set, drop-cons, take-append-le}
-use lib.Dec.{ltb, leb, eqb}
+use lib.Dec.{leb, eqb}
 use native.Mathlib.Numerals.{add-one}
 use native.Mathlib.Omega.{arith}
-use borrow.Author.Tests.{eqb-true, eqb-false, ne-eqb, not-false}
+use borrow.Author.Tests.{eqb-true, eqb-false, ne-eqb}
 use Rattle.purse.specs.declared.Name.{Name}
-use Rattle.purse.specs.declared.Amount.{Amount}
 use Rattle.purse.specs.declared.Details.{Details}
 use Rattle.purse.specs.declared.Purse.{Purse}
-use Rattle.purse.specs.Details.{zeroDetails, sameDetails, legal, named, asPayer, asPayee, entryOk}
+use Rattle.purse.specs.Details.{zeroDetails, sameDetails, named, asPayer, asPayee, entryOk}
 use Rattle.purse.specs.Purse.{paysOk, getsOk, busyOk, wellFormed}
-use Rattle.purse.specs.Step.{startNumber, stopped, taken}
+use Rattle.purse.specs.Step.{stopped, taken}
 use Rattle.purse.specs.Lists.{all}
 use Rattle.purse.proofs.Bools.{and-l, and-r, no-and, or-l, or-r, either, and-i, which}
-use Rattle.purse.proofs.Tests.{passed}
 use Rattle.purse.proofs.Rules.{busy, busy-parts, room, wf-log, wf-bounds, busy-entry, Bounds}
 use Rattle.purse.proofs.Payments.{as-payer, as-payee, is-named}
 use Rattle.purse.proofs.Log.{used-at, log-long}
