@@ -164,6 +164,18 @@ module _ {A : Type 0} (same : A → A → Bool) (eq : (x y : A) → same x y ≡
   total-eq w s t h =
       omega (arith, total-le w s t (λ (x : A). omega (arith, h x)), total-le w t s (λ (x : A). omega (arith, h x)))
 
+-- each member, by its place
+pub all-at : {A : Type 0} (f : A → Bool) (z : A) (l : List A) (i : ℕ) → all f l ≡ true → i < length l → f (getD l i z) ≡ true
+all-at f z [] i h g = absurd (omega arith)
+all-at f z (x ∷ l) zero h g = and-l (f x) (all f l) h
+all-at f z (x ∷ l) (suc i) h g = all-at f z l i (and-r (f x) (all f l) h) (omega arith)
+
+-- each of the first n
+pub all-take : {A : Type 0} (f : A → Bool) (z : A) (n : ℕ) (l : List A) → n ≤ length l → ((i : ℕ) → i < n → f (getD l i z) ≡ true) → all f (take n l) ≡ true
+all-take f z zero l h g = refl
+all-take f z (suc n) [] h g = absurd (omega arith)
+all-take f z (suc n) (x ∷ l) h g = and-i (g zero (omega arith)) (all-take f z n l (omega arith) (λ (i : ℕ) (k : i < n). g (suc i) (omega arith)))
+
 -- sums
 pub total-append : {A : Type 0} (w : A → ℕ) (s t : List A) → total w (s ++ t) ≡ total w s + total w t
 total-append w [] t = omega arith

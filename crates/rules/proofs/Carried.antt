@@ -3,7 +3,7 @@
 -- Assumes nothing.
 use Prim.Native.Nat.{ℕ, _+_, _≤_, _<_}
 use mathlib.Core.Path.{_≡_, refl, _∙_, sym, ap, subst}
-use mathlib.Core.Bool.{true, false, cond}
+use mathlib.Core.Bool.{true, false, not, cond}
 use mathlib.Core.Logic.{⊎-elim}
 use mathlib.Core.List.{List, [], _∷_, _++_, map}
 use lib.ListN.{length, getD}
@@ -13,6 +13,7 @@ use borrow.Author.Tests.{eqb-true, eqb-false}
 use Rattle.purse.specs.declared.Details.{Details}
 use Rattle.purse.specs.declared.Purse.{Purse}
 use Rattle.purse.specs.Lists.{all, among, distinct, total, sumTo}
+use Rattle.purse.specs.Tests.{Test, _⇒_, first}
 use Rattle.purse.specs.Details.{sameDetails}
 use Rattle.purse.proofs.Bools.{which}
 use Rattle.purse.proofs.Count.{sum-same}
@@ -26,13 +27,18 @@ use Rattle.rules.specs.Run.{openingNumber, opened, run, answers}
 use Rattle.rules.specs.Paid.{delivers, movedBy, moved, amountOf, matched, paidOut, takenIn, abortOf}
 use Rattle.rules.specs.Laid.{laid, seen, heldOk, heldStep, heldRun, heldAnswers, heldOpening}
 use Rattle.rules.specs.HeldPaid.{heldPurse, heldBalance, heldMoved, heldPaid, heldArrived}
+use Rattle.rules.proofs.Facts.{is-table}
 use Rattle.rules.proofs.Places.{seen-laid, laid-seen, seen-ok, held-laid, step-laid}
 use Rattle.rules.proofs.Stores.{purse-laid}
 use Rattle.rules.proofs.Kept.{never, keep-step, keep-run}
-use Rattle.rules.proofs.Orders.{never-two}
+use Rattle.rules.proofs.Orders.{testsOf, event-order, never-two}
 use Rattle.rules.proofs.Refusals.{refused-same, others-same}
 use Rattle.rules.proofs.Opened.{opened-ok}
 use Rattle.rules.proofs.Safe.{sum-safe, arrived-paid, paid-once, arrived-once, stopped-safe, stops-done}
+
+-- the tests of a table and desk: 2, then those of the lists
+abbrev pub heldOrder : Held → List ℕ → List Test
+heldOrder h l = (not (heldOk h) ⇒ 2) ∷ testsOf (seen h) (decoded l)
 
 -- a run on places is the run on lists
 module _ (b : Bench) (l : List ℕ) (w : tableOk b ≡ true) where
@@ -96,7 +102,16 @@ held-never-two h l =
     by-held h l (λ (h : Held) (a : Answered). heldOk h ≡ true → a .answer ≡ 2 → ⊥) (λ no ok. absurd (never _ ok no))
     (λ b w ok. never-two b l w)
 
--- any table and desk: a refusal changes nothing
+-- any table and desk: the answer is the first test that applies, in document 01's order
+pub held-answer-order : (h : Held) (l : List ℕ) → heldStep h l .answer ≡ first (heldOrder h l)
+unfolding heldStep
+held-answer-order h l =
+    ⊎-elim
+    (λ (w : heldOk h ≡ true). rw w (event-order (seen h) (is-table (seen h) (seen-ok h w)) (decoded l)))
+    (λ (w : heldOk h ≡ false). rw w)
+    (which (heldOk h))
+
+-- a refusal changes nothing
 pub held-refused-same : (h : Held) (l : List ℕ) → 2 ≤ heldStep h l .answer → heldStep h l .held ≡ h
 held-refused-same h l =
     by-held h l (λ (h : Held) (a : Answered). 2 ≤ a .answer → a .held ≡ h) (λ no high. refl)

@@ -70,7 +70,7 @@ module _ (balances : List ℕ) (events : List (List ℕ)) (opens : openingNumber
 
   -- "To stop a purse is to give it an abort event": no stop of a purse of the table is refused
   pub stops-are-done : (names : List ℕ) → all (λ (p : ℕ). ltb p (length balances)) names ≡ true → answers (run (opened balances) events) (map abortOf names) ≡ map (λ (p : ℕ). 0) names
-  stops-are-done names = λ in-table. stops-done balances events names opens in-table
+  stops-are-done names in-table = stops-done balances events names opens in-table
 
 -- demand 3: stop every purse, in any order. Then, of each purse, the balance and what its matched log pairs record, and its payments that
 -- arrived, are its opening balance and the payments that arrived in it
@@ -88,6 +88,9 @@ module _ (balances : List ℕ) (events : List (List ℕ)) (opens : openingNumber
 module _ (h : Held) (event : List ℕ) where
   pub lent-step-keeps-the-rules : heldOk h ≡ true → heldOk (heldStep h event .held) ≡ true
   lent-step-keeps-the-rules = lent.held-kept h event
+
+  pub lent-first-that-applies : heldStep h event .answer ≡ first (lent.heldOrder h event)
+  lent-first-that-applies = lent.held-answer-order h event
 
   pub lent-refusal-changes-nothing : 2 ≤ heldStep h event .answer → heldStep h event .held ≡ h
   lent-refusal-changes-nothing = lent.held-refused-same h event

@@ -16,7 +16,7 @@ use Rattle.purse.specs.declared.Amount.{Amount}
 use Rattle.purse.specs.declared.Details.{Details}
 use Rattle.purse.specs.declared.Message.{Message}
 use Rattle.purse.specs.declared.Purse.{Purse}
-use Rattle.purse.specs.Details.{zeroDetails, zeroMessage, sameDetails, sameMessage}
+use Rattle.purse.specs.Details.{request, value, acknowledge, zeroDetails, zeroMessage, sameDetails, sameMessage}
 use Rattle.purse.specs.Step.{stopped, taken}
 use Rattle.purse.specs.Lists.{keep, total, without}
 use Rattle.purse.proofs.Rules.{can-pay}
@@ -238,7 +238,7 @@ module _ (opening : ℕ → ℕ) (b : Bench) (t : Table b) (P A : List Details) 
       at-end m₀ m (b .messages) (λ (m : Message). (1 ≤ countM m (b .messages)) ⊎ Backed c (P ++ x) (A ++ y) m) (rw (e ∙ f .0) at l) (inr k) (λ j. inl j))
       s
 
-  hist-to : (p : ℕ) (o : Name) (s : Seq) (a : Amount) → Started b p (o .0) → Good p (begunTo b p o s a) → (ms : List Message) → Sent b (messageOf 1 (toOf b p o s a)) ms → History opening (withMessages (withPurse b p (begunTo b p o s a)) ms) (P ++ []) (A ++ [])
+  hist-to : (p : ℕ) (o : Name) (s : Seq) (a : Amount) → Started b p (o .0) → Good p (begunTo b p o s a) → (ms : List Message) → Sent b (messageOf request (toOf b p o s a)) ms → History opening (withMessages (withPurse b p (begunTo b p o s a)) ms) (P ++ []) (A ++ [])
   hist-to p o s a st w ms sn =
       let q : Purse = purseAt b p in
       let q′ : Purse = begunTo b p o s a in
@@ -275,11 +275,11 @@ module _ (opening : ℕ → ℕ) (b : Bench) (t : Table b) (P A : List Details) 
             (λ none. omega (arith, ps d, es d, h .counts d));
         rises = λ (d : Details). omega (arith, es d .epv, es d .log);
         backed =
-            sent-backed c [] [] (messageOf 1 D) ms refl sn
+            sent-backed c [] [] (messageOf request D) ms refl sn
             (record { request = λ j. omega (arith, es D .epv); value = λ (j : 1 ≡ 2). absurd (omega arith); acknowledge = λ (j : 1 ≡ 3). absurd (omega arith) });
       })
 
-  hist-pay : (p : ℕ) → Taking b p 1 → Good p (payerAfter b p) → (ms : List Message) → Sent b (messageOf 2 (purseAt b p .details)) ms → History opening (withMessages (withPurse b p (payerAfter b p)) ms) (P ++ (purseAt b p .details ∷ [])) (A ++ [])
+  hist-pay : (p : ℕ) → Taking b p request → Good p (payerAfter b p) → (ms : List Message) → Sent b (messageOf value (purseAt b p .details)) ms → History opening (withMessages (withPurse b p (payerAfter b p)) ms) (P ++ (purseAt b p .details ∷ [])) (A ++ [])
   hist-pay p g w ms sn =
       let q : Purse = purseAt b p in
       let q′ : Purse = payerAfter b p in
@@ -300,11 +300,11 @@ module _ (opening : ℕ → ℕ) (b : Bench) (t : Table b) (P A : List Details) 
       (λ e. record { epv = omega (arith, at-no q 2 d (λ (y : q .status ≡ 2). omega arith)); log = omega arith })
       (λ e r. record { epv = refl; log = omega arith })
       in
-      let k : MessageOk b (messageOf 1 D) = t .message (messageOf 1 D) (g .stands) in
+      let k : MessageOk b (messageOf request D) = t .message (messageOf request D) (g .stands) in
       let gr : Grown b c = grown-with ms (b .archive) (grown-put b p q′ (g .here) (omega arith)) in
       let own : purseAt b (D .payer .0) .next .0 ≡ q .next .0 = ap (λ (n : ℕ). purseAt b n .next .0) mine in
       let here : bit (sameDetails D D) ≡ 1 = rw (details-same D) in
-      let asked : 1 ≤ epv b D + payeeLog b D + countD D A = h .backed (messageOf 1 D) (g .stands) .request refl in
+      let asked : 1 ≤ epv b D + payeeLog b D + countD D A = h .backed (messageOf request D) (g .stands) .request refl in
       let enough : amountOf D ≤ q .balance .0 = can-pay (called p) q (t .well p (g .here)) z in
       after h
       (record {
@@ -325,7 +325,7 @@ module _ (opening : ℕ → ℕ) (b : Bench) (t : Table b) (P A : List Details) 
             (λ none. omega (arith, ps d, es d, h .counts d));
         rises = λ (d : Details). omega (arith, es d .epv, es d .log);
         backed =
-            sent-backed c (D ∷ []) [] (messageOf 2 D) ms refl sn
+            sent-backed c (D ∷ []) [] (messageOf value D) ms refl sn
             (record {
               request = λ (j : 2 ≡ 1). absurd (omega arith);
               value = λ j. omega (arith, times-append sameDetails D P (D ∷ []));
@@ -333,7 +333,7 @@ module _ (opening : ℕ → ℕ) (b : Bench) (t : Table b) (P A : List Details) 
             });
       })
 
-  hist-get : (p : ℕ) → Taking b p 2 → Good p (payeeAfter b p) → (ms : List Message) → Sent b (messageOf 3 (purseAt b p .details)) ms → History opening (withMessages (withPurse b p (payeeAfter b p)) ms) (P ++ []) (A ++ (purseAt b p .details ∷ []))
+  hist-get : (p : ℕ) → Taking b p value → Good p (payeeAfter b p) → (ms : List Message) → Sent b (messageOf acknowledge (purseAt b p .details)) ms → History opening (withMessages (withPurse b p (payeeAfter b p)) ms) (P ++ []) (A ++ (purseAt b p .details ∷ []))
   hist-get p g w ms sn =
       let q : Purse = purseAt b p in
       let q′ : Purse = payeeAfter b p in
@@ -355,7 +355,7 @@ module _ (opening : ℕ → ℕ) (b : Bench) (t : Table b) (P A : List Details) 
       (λ e r. record { epv = omega (arith, other-payee p d D mine e); log = omega arith })
       in
       let here : bit (sameDetails D D) ≡ 1 = rw (details-same D) in
-      let was : 1 ≤ countD D P = h .backed (messageOf 2 D) (g .stands) .value refl in
+      let was : 1 ≤ countD D P = h .backed (messageOf value D) (g .stands) .value refl in
       after h
       (record {
         grown = grown-with ms (b .archive) (grown-put b p q′ (g .here) (omega arith));
@@ -372,7 +372,7 @@ module _ (opening : ℕ → ℕ) (b : Bench) (t : Table b) (P A : List Details) 
             (λ none. omega (arith, ps d, es d, h .counts d));
         rises = λ (d : Details). omega (arith, es d .epv, es d .log);
         backed =
-            sent-backed c [] (D ∷ []) (messageOf 3 D) ms refl sn
+            sent-backed c [] (D ∷ []) (messageOf acknowledge D) ms refl sn
             (record {
               request = λ (j : 3 ≡ 1). absurd (omega arith);
               value = λ (j : 3 ≡ 2). absurd (omega arith);
@@ -380,7 +380,7 @@ module _ (opening : ℕ → ℕ) (b : Bench) (t : Table b) (P A : List Details) 
             });
       })
 
-  hist-settle : (p : ℕ) → Taking b p 3 → Good p (idleAfter b p) → History opening (withPurse b p (idleAfter b p)) (P ++ []) (A ++ [])
+  hist-settle : (p : ℕ) → Taking b p acknowledge → Good p (idleAfter b p) → History opening (withPurse b p (idleAfter b p)) (P ++ []) (A ++ [])
   hist-settle p g w =
       let q : Purse = purseAt b p in
       let q′ : Purse = idleAfter b p in
@@ -401,7 +401,7 @@ module _ (opening : ℕ → ℕ) (b : Bench) (t : Table b) (P A : List Details) 
       (λ e. record { epv = omega (arith, at-no q 2 d (λ (y : q .status ≡ 2). omega arith)); log = omega arith })
       (λ e r. record { epv = refl; log = omega arith })
       in
-      let came : 1 ≤ countD D A = h .backed (messageOf 3 D) (g .stands) .acknowledge refl in
+      let came : 1 ≤ countD D A = h .backed (messageOf acknowledge D) (g .stands) .acknowledge refl in
       quiet p q′ (g .here) (omega arith) refl
       (λ (d : Details).
       by-same d D (λ (d : Details). CountsAt c d (countD d P + 0) (countD d A + 0))

@@ -179,7 +179,8 @@ module _ (b : Bench) (t : Table b) where
       (which (leb 256 (length (b .archive))))))
       (which (eqb (purseAt b (p .0) .logged) 0)))
 
-  event-order : (e : Event) → acting b e .answer ≡ first (testsOf b e)
+  -- a well-formed bench, by the kind of event
+  pub event-order : (e : Event) → acting b e .answer ≡ first (testsOf b e)
   unfolding acting
   event-order Malformed = refl
   event-order (StartFrom p o s a) =
