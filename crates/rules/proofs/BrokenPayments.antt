@@ -20,7 +20,7 @@ use Rattle.rules.specs.Events.{decoded}
 use Rattle.rules.specs.Steps.{acting, step}
 use Rattle.rules.specs.Run.{run, answers}
 use Rattle.rules.specs.Paid.{amountOf, movedBy, paid, arrived, matched, claims, abortOf}
-use Rattle.rules.proofs.Edges.{event, from, to, delivery, payment}
+use Rattle.rules.proofs.Samples.{event, from, to, delivery, payment}
 use Rattle.rules.proofs.Listing.{start, events}
 
 -- what is left, in numbers

@@ -20,7 +20,7 @@ use Rattle.rules.specs.Events.{decoded}
 use Rattle.rules.specs.Steps.{acting, step}
 use Rattle.rules.specs.Run.{openedAt}
 use Rattle.rules.specs.Laid.{isZeroPurse, isZeroMessage, isZeroEntry, heldOk, heldStep}
-use Rattle.rules.proofs.Edges.{payment}
+use Rattle.rules.proofs.Samples.{payment}
 
 -- a purse with next number 20
 abbrev purse : ℕ → ℕ → Details → List Details → Purse
