@@ -3,7 +3,7 @@
 -- Assumes nothing.
 use Prim.Native.Nat.{ℕ, _+_, _≤_, _<_}
 use mathlib.Core.Path.{_≡_, refl, _∙_, sym, ap, subst}
-use mathlib.Core.Bool.{true, false, not, cond}
+use mathlib.Core.Bool.{true, false, cond}
 use mathlib.Core.Logic.{⊎-elim}
 use mathlib.Core.List.{List, [], _∷_, _++_, map}
 use lib.ListN.{length, getD}
@@ -13,7 +13,7 @@ use borrow.Author.Tests.{eqb-true, eqb-false}
 use Rattle.purse.specs.declared.Details.{Details}
 use Rattle.purse.specs.declared.Purse.{Purse}
 use Rattle.purse.specs.Lists.{all, among, distinct, total, sumTo}
-use Rattle.purse.specs.Tests.{Test, _⇒_, first}
+use Rattle.purse.specs.Tests.{first}
 use Rattle.purse.specs.Details.{sameDetails}
 use Rattle.purse.proofs.Bools.{which}
 use Rattle.purse.proofs.Count.{sum-same}
@@ -27,18 +27,15 @@ use Rattle.rules.specs.Run.{openingNumber, opened, run, answers}
 use Rattle.rules.specs.Paid.{delivers, movedBy, moved, amountOf, matched, paidOut, takenIn, abortOf}
 use Rattle.rules.specs.Laid.{laid, seen, heldOk, heldStep, heldRun, heldAnswers, heldOpening}
 use Rattle.rules.specs.HeldPaid.{heldPurse, heldBalance, heldMoved, heldPaid, heldArrived}
+use Rattle.rules.specs.Orders.{heldOrder}
 use Rattle.rules.proofs.Facts.{is-table}
 use Rattle.rules.proofs.Places.{seen-laid, laid-seen, seen-ok, held-laid, step-laid}
 use Rattle.rules.proofs.Stores.{purse-laid}
 use Rattle.rules.proofs.Kept.{never, keep-step, keep-run}
-use Rattle.rules.proofs.Orders.{testsOf, event-order, never-two}
+use Rattle.rules.proofs.Orders.{event-order, never-two}
 use Rattle.rules.proofs.Refusals.{refused-same, others-same}
 use Rattle.rules.proofs.Opened.{opened-ok}
 use Rattle.rules.proofs.Safe.{sum-safe, arrived-paid, paid-once, arrived-once, stopped-safe, stops-done}
-
--- the tests of a table and desk: 2, then those of the lists
-abbrev pub heldOrder : Held → List ℕ → List Test
-heldOrder h l = (not (heldOk h) ⇒ 2) ∷ testsOf (seen h) (decoded l)
 
 -- a run on places is the run on lists
 module _ (b : Bench) (l : List ℕ) (w : tableOk b ≡ true) where

@@ -1,4 +1,5 @@
--- Every event is one of ten moves (an abort of an idle purse, like a refusal, stays). What holds of each move holds of every step: the case analysis of the bench's step, made once.
+-- Every event is one of ten moves (a refusal stays, and so does an abort of an idle purse). What holds of each move holds of every step: the
+-- case analysis of the bench's step, made once.
 -- Assumes nothing.
 use Prim.Native.Nat.{ℕ, _≤_, _<_}
 use mathlib.Core.Path.{_≡_, refl, sym}

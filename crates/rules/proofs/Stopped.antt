@@ -1,4 +1,5 @@
--- An abort of a purse of the table is never refused, leaves that purse idle and no idle purse busy. So after an abort to every purse all are idle.
+-- An abort of a purse of the table is never refused, leaves that purse idle and no idle purse busy. So after an abort to every purse all
+-- are idle.
 -- Assumes nothing.
 use Prim.Native.Nat.{ℕ, _≤_, _<_}
 use mathlib.Core.Path.{_≡_, refl, _∙_, ap}
