@@ -201,6 +201,19 @@ module _ (opening : ℕ → ℕ) (b : Bench) (t : Table b) (P A : List Details) 
         backed = λ m l. inl l;
       })
 
+  -- purse p replaced, and the payer's side of no payment moves; likewise the payee's
+  payer-still : (p : ℕ) (q : Purse) → p < length (b .purses) → (q .status ≡ 1 → ⊥) → (q .status ≡ 3 → ⊥) → (purseAt b p .status ≡ 3 → ⊥) → ((d : Details) → d .payer .0 ≡ p → countD d (kept q) ≡ countD d (kept (purseAt b p))) → (d : Details) → PayerSide d 0 0 0 0 0 (purseAt b (d .payer .0)) (purseAt (withPurse b p q) (d .payer .0))
+  payer-still p q hp n1 n3 o3 log d =
+      put-cases b p q hp (d .payer .0) (PayerSide d 0 0 0 0 0)
+      (λ e. record { epr = omega (arith, at-no q 1 d n1); epa = omega (arith, at-no q 3 d n3, at-no (purseAt b p) 3 d o3); log = omega (arith, log d e) })
+      (λ e r. record { epr = omega arith; epa = refl; log = omega arith })
+
+  payee-still : (p : ℕ) (q : Purse) → p < length (b .purses) → (q .status ≡ 2 → ⊥) → (purseAt b p .status ≡ 2 → ⊥) → ((d : Details) → d .payee .0 ≡ p → countD d (kept q) ≡ countD d (kept (purseAt b p))) → (d : Details) → PayeeSide d 0 0 0 (purseAt b (d .payee .0)) (purseAt (withPurse b p q) (d .payee .0))
+  payee-still p q hp n2 o2 log d =
+      put-cases b p q hp (d .payee .0) (PayeeSide d 0 0 0)
+      (λ e. record { epv = omega (arith, at-no q 2 d n2, at-no (purseAt b p) 2 d o2); log = omega (arith, log d e) })
+      (λ e r. record { epv = refl; log = omega arith })
+
   hist-from : (p : ℕ) (o : Name) (s : Seq) (a : Amount) → Started b p (o .0) → Good p (begunFrom b p o s a) → History opening (withPurse b p (begunFrom b p o s a)) (P ++ []) (A ++ [])
   hist-from p o s a st w =
       let q : Purse = purseAt b p in
@@ -216,10 +229,7 @@ module _ (opening : ℕ → ℕ) (b : Bench) (t : Table b) (P A : List Details) 
       (λ e r. record { epr = omega arith; epa = refl; log = omega arith })
       in
       let es : (d : Details) → PayeeSide d 0 0 0 (purseAt b (d .payee .0)) (purseAt c (d .payee .0)) =
-      λ (d : Details).
-      put-cases b p q′ (st .here) (d .payee .0) (PayeeSide d 0 0 0)
-      (λ e. record { epv = omega (arith, no 2 (omega arith) d); log = omega arith })
-      (λ e r. record { epv = refl; log = omega arith })
+      payee-still p q′ (st .here) (λ y. omega arith) (λ y. omega arith) (λ d e. refl)
       in
       let fresh : countD D P ≡ 0 = none _ (λ (l : 1 ≤ countD D P). omega (arith, h .placed D l .payerseq)) in
       quiet p q′ (st .here) (omega arith) refl
@@ -247,10 +257,7 @@ module _ (opening : ℕ → ℕ) (b : Bench) (t : Table b) (P A : List Details) 
       let z : q .status ≡ 0 = st .idle in
       let no : (k : ℕ) → 1 ≤ k → (d : Details) → bit (isAt k q d) ≡ 0 = λ (k : ℕ) (l : 1 ≤ k) (d : Details). at-no q k d (λ (y : q .status ≡ k). omega arith) in
       let ps : (d : Details) → PayerSide d 0 0 0 0 0 (purseAt b (d .payer .0)) (purseAt c (d .payer .0)) =
-      λ (d : Details).
-      put-cases b p q′ (st .here) (d .payer .0) (PayerSide d 0 0 0 0 0)
-      (λ e. record { epr = omega (arith, no 1 (omega arith) d); epa = omega (arith, no 3 (omega arith) d); log = omega arith })
-      (λ e r. record { epr = omega arith; epa = refl; log = omega arith })
+      payer-still p q′ (st .here) (λ y. omega arith) (λ y. omega arith) (λ y. omega arith) (λ d e. refl)
       in
       let es : (d : Details) → PayeeSide d 0 (bit (sameDetails d D)) 0 (purseAt b (d .payee .0)) (purseAt c (d .payee .0)) =
       λ (d : Details).
@@ -295,10 +302,7 @@ module _ (opening : ℕ → ℕ) (b : Bench) (t : Table b) (P A : List Details) 
       (λ e r. record { epr = omega (arith, other-payer p d D mine e); epa = omega (arith, other-payer p d D mine e); log = omega arith })
       in
       let es : (d : Details) → PayeeSide d 0 0 0 (purseAt b (d .payee .0)) (purseAt c (d .payee .0)) =
-      λ (d : Details).
-      put-cases b p q′ (g .here) (d .payee .0) (PayeeSide d 0 0 0)
-      (λ e. record { epv = omega (arith, at-no q 2 d (λ (y : q .status ≡ 2). omega arith)); log = omega arith })
-      (λ e r. record { epv = refl; log = omega arith })
+      payee-still p q′ (g .here) (λ y. omega arith) (λ y. omega arith) (λ d e. refl)
       in
       let k : MessageOk b (messageOf request D) = t .message (messageOf request D) (g .stands) in
       let gr : Grown b c = grown-with ms (b .archive) (grown-put b p q′ (g .here) (omega arith)) in
@@ -343,10 +347,7 @@ module _ (opening : ℕ → ℕ) (b : Bench) (t : Table b) (P A : List Details) 
       let role : OwnPayee (called p) q = payee-role (called p) q (t .well p (g .here)) z in
       let mine : D .payee .0 ≡ p = role .name in
       let ps : (d : Details) → PayerSide d 0 0 0 0 0 (purseAt b (d .payer .0)) (purseAt c (d .payer .0)) =
-      λ (d : Details).
-      put-cases b p q′ (g .here) (d .payer .0) (PayerSide d 0 0 0 0 0)
-      (λ e. record { epr = omega arith; epa = omega (arith, at-no q 3 d (λ (y : q .status ≡ 3). omega arith)); log = omega arith })
-      (λ e r. record { epr = omega arith; epa = refl; log = omega arith })
+      payer-still p q′ (g .here) (λ y. omega arith) (λ y. omega arith) (λ y. omega arith) (λ d e. refl)
       in
       let es : (d : Details) → PayeeSide d (bit (sameDetails d D)) 0 0 (purseAt b (d .payee .0)) (purseAt c (d .payee .0)) =
       λ (d : Details).
@@ -396,10 +397,7 @@ module _ (opening : ℕ → ℕ) (b : Bench) (t : Table b) (P A : List Details) 
       (λ e r. record { epr = omega arith; epa = omega (arith, other-payer p d D mine e); log = omega arith })
       in
       let es : (d : Details) → PayeeSide d 0 0 0 (purseAt b (d .payee .0)) (purseAt c (d .payee .0)) =
-      λ (d : Details).
-      put-cases b p q′ (g .here) (d .payee .0) (PayeeSide d 0 0 0)
-      (λ e. record { epv = omega (arith, at-no q 2 d (λ (y : q .status ≡ 2). omega arith)); log = omega arith })
-      (λ e r. record { epv = refl; log = omega arith })
+      payee-still p q′ (g .here) (λ y. omega arith) (λ y. omega arith) (λ d e. refl)
       in
       let came : 1 ≤ countD D A = h .backed (messageOf acknowledge D) (g .stands) .acknowledge refl in
       quiet p q′ (g .here) (omega arith) refl
@@ -415,16 +413,10 @@ module _ (opening : ℕ → ℕ) (b : Bench) (t : Table b) (P A : List Details) 
       let q′ : Purse = idleAfter b p in
       let c : Bench = withPurse b p q′ in
       let ps : (d : Details) → PayerSide d 0 0 0 0 0 (purseAt b (d .payer .0)) (purseAt c (d .payer .0)) =
-      λ (d : Details).
-      put-cases b p q′ hp (d .payer .0) (PayerSide d 0 0 0 0 0)
-      (λ e. record { epr = omega arith; epa = omega (arith, at-no q 3 d (λ (y : q .status ≡ 3). omega arith)); log = omega arith })
-      (λ e r. record { epr = omega arith; epa = refl; log = omega arith })
+      payer-still p q′ hp (λ y. omega arith) (λ y. omega arith) (λ y. omega arith) (λ d e. refl)
       in
       let es : (d : Details) → PayeeSide d 0 0 0 (purseAt b (d .payee .0)) (purseAt c (d .payee .0)) =
-      λ (d : Details).
-      put-cases b p q′ hp (d .payee .0) (PayeeSide d 0 0 0)
-      (λ e. record { epv = omega (arith, at-no q 2 d (λ (y : q .status ≡ 2). omega arith)); log = omega arith })
-      (λ e r. record { epv = refl; log = omega arith })
+      payee-still p q′ hp (λ y. omega arith) (λ y. omega arith) (λ d e. refl)
       in
       quiet p q′ hp (omega arith) refl
       (λ (d : Details). omega (arith, ps d, es d, h .counts d))
@@ -450,10 +442,7 @@ module _ (opening : ℕ → ℕ) (b : Bench) (t : Table b) (P A : List Details) 
       (λ (z : q .status ≡ 2).
       let mine : D .payee .0 ≡ p = payee-role (called p) q (t .well p hp) z .name in
       let ps : (d : Details) → PayerSide d 0 0 0 0 0 (purseAt b (d .payer .0)) (purseAt c (d .payer .0)) =
-      λ (d : Details).
-      put-cases b p q′ hp (d .payer .0) (PayerSide d 0 0 0 0 0)
-      (λ e. record { epr = omega arith; epa = omega (arith, at-no q 3 d (λ (y : q .status ≡ 3). omega arith)); log = omega (arith, logs d, crossed p d D e mine apart) })
-      (λ e r. record { epr = omega arith; epa = refl; log = omega arith })
+      payer-still p q′ hp (λ y. omega arith) (λ y. omega arith) (λ y. omega arith) (λ d e. omega (arith, logs d, crossed p d D e mine apart))
       in
       let es : (d : Details) → PayeeSide d (bit (sameDetails d D)) 0 (bit (sameDetails d D)) (purseAt b (d .payee .0)) (purseAt c (d .payee .0)) =
       λ (d : Details).
@@ -473,10 +462,7 @@ module _ (opening : ℕ → ℕ) (b : Bench) (t : Table b) (P A : List Details) 
       (λ e r. record { epr = omega arith; epa = omega (arith, other-payer p d D mine e); log = omega (arith, other-payer p d D mine e) })
       in
       let es : (d : Details) → PayeeSide d 0 0 0 (purseAt b (d .payee .0)) (purseAt c (d .payee .0)) =
-      λ (d : Details).
-      put-cases b p q′ hp (d .payee .0) (PayeeSide d 0 0 0)
-      (λ e. record { epv = omega (arith, at-no q 2 d (λ (y : q .status ≡ 2). omega arith)); log = omega (arith, logs d, crossed′ p d D e mine apart) })
-      (λ e r. record { epv = refl; log = omega arith })
+      payee-still p q′ hp (λ y. omega arith) (λ y. omega arith) (λ d e. omega (arith, logs d, crossed′ p d D e mine apart))
       in
       quiet p q′ hp (omega arith) refl
       (λ (d : Details). omega (arith, ps d, es d, h .counts d))

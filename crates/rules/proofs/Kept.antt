@@ -44,6 +44,19 @@ running-busy q d s = rw (ne-eqb (q .status) 0 s) (omega arith)
 pub at-own : (q : Purse) (k : ℕ) → q .status ≡ k → isAt k q (q .details) ≡ true
 at-own q k s = and-i (eq-eqb _ _ s) (details-same (q .details))
 
+-- the message that answers one of the same payment, once the payer has used its number
+answer-ok : {b : Bench} {j : ℕ} {d : Details} (k : ℕ) → 1 ≤ k → k ≤ 3 → MessageOk b (messageOf j d) → (1 ≤ d .payerseq .0) × (d .payerseq .0 < purseAt b (d .payer .0) .next .0) → MessageOk b (messageOf k d)
+answer-ok k low high m used =
+    record {
+      low = low;
+      high = high;
+      name = m .name;
+      table = m .table;
+      payee-low = m .payee-low;
+      payee-high = m .payee-high;
+      payer = inr used;
+    }
+
 module _ (b : Bench) (t : Table b) where
   -- what stands among a purse's own details is one of its entries
   pub own-entry : (p : ℕ) → p < length (b .purses) → (d : Details) → 1 ≤ countD d (kept (purseAt b p)) + countD d (archivedBy p (b .archive)) → entryOk (called p) (purseAt b p .next) d ≡ true
@@ -232,15 +245,7 @@ module _ (b : Bench) (t : Table b) where
       let j : purseAt b (D .payer .0) .next .0 ≡ q .next .0 = ap (λ (n : ℕ). purseAt b n .next .0) (role .name) in
       sent c (messageOf value D) ms refl tc x
       (message-later (grown-put b p (payerAfter b p) (g .here) (omega arith))
-      (record {
-        low = omega arith;
-        high = omega arith;
-        name = k .name;
-        table = k .table;
-        payee-low = k .payee-low;
-        payee-high = k .payee-high;
-        payer = inr (role .low, omega (arith, role .high));
-      }))
+      (answer-ok value (omega arith) (omega arith) k (role .low, omega (arith, role .high))))
       (none _ (λ (l : 1 ≤ countM (messageOf value D) (b .messages)). never (isAt 1 q D) (at-own q 1 (g .status)) (rw (role .name) at (t .clear (messageOf value D) l .epr (omega arith)))))
       (record { epr = λ (y : 2 ≤ 2). rw (role .name, here-after p (payerAfter b p) (g .here)); epv = λ (y : 2 ≡ 3). absurd (omega arith) })
 
@@ -254,15 +259,7 @@ module _ (b : Bench) (t : Table b) where
       let k : MessageOk b (messageOf value D) = t .message (messageOf value D) (g .stands) in
       sent c (messageOf acknowledge D) ms refl tc x
       (message-later (grown-put b p (payeeAfter b p) (g .here) (omega arith))
-      (record {
-        low = omega arith;
-        high = omega arith;
-        name = k .name;
-        table = k .table;
-        payee-low = k .payee-low;
-        payee-high = k .payee-high;
-        payer = ⊎-elim (λ (y : 2 ≡ 1). absurd (omega arith)) (λ (y : (1 ≤ D .payerseq .0) × (D .payerseq .0 < purseAt b (D .payer .0) .next .0)). inr y) (k .payer);
-      }))
+      (answer-ok acknowledge (omega arith) (omega arith) k (⊎-elim (λ (y : 2 ≡ 1). absurd (omega arith)) (λ y. y) (k .payer))))
       (none _ (λ (l : 1 ≤ countM (messageOf acknowledge D) (b .messages)). never (isAt 2 q D) (at-own q 2 (g .status)) (rw (role .name) at (t .clear (messageOf acknowledge D) l .epv refl))))
       (record { epr = λ (y : 2 ≤ 3). tc .clear (messageOf value D) (g .stands) .epr (omega arith); epv = λ (y : 3 ≡ 3). rw (role .name, here-after p (payeeAfter b p) (g .here)) })
 
