@@ -30,10 +30,6 @@ pub bit-yes : (b : Bool) → 1 ≤ bit b → b ≡ true
 bit-yes true h = refl
 bit-yes false h = absurd (omega arith)
 
-pub bit-no : (b : Bool) → bit b ≡ 0 → b ≡ false
-bit-no true h = absurd (omega arith)
-bit-no false h = refl
-
 pub cond-zero : (b : Bool) (n : ℕ) → cond b (0 + n) 0 ≡ cond b n 0
 cond-zero true n = omega arith
 cond-zero false n = refl
@@ -189,10 +185,6 @@ keep-append {A} f (x ∷ s) t =
     (λ (e : f x ≡ false). rw e (keep-append f s t))
     (which (f x))
 
-pub sum-le : (n : ℕ) (f g : ℕ → ℕ) → ((p : ℕ) → p < n → f p ≤ g p) → sumTo n f ≤ sumTo n g
-sum-le zero f g h = omega arith
-sum-le (suc n) f g h = omega (arith, sum-le n f g (λ (p : ℕ) (l : p < n). h p (omega arith)), h n (omega arith))
-
 pub sum-same : (n : ℕ) (f g : ℕ → ℕ) → ((p : ℕ) → p < n → f p ≡ g p) → sumTo n f ≡ sumTo n g
 sum-same zero f g h = refl
 sum-same (suc n) f g h = omega (arith, sum-same n f g (λ (p : ℕ) (l : p < n). h p (omega arith)), h n (omega arith))
@@ -242,14 +234,6 @@ module _ {A : Type 0} (w f : A → ℕ) where
   sum-none : (n : ℕ) → sumTo n (shares []) ≡ 0
   sum-none zero = refl
   sum-none (suc n) = omega (arith, sum-none n)
-
-  pub sum-shares-le : (n : ℕ) (l : List A) → sumTo n (λ (p : ℕ). total w (keep (λ (d : A). eqb (f d) p) l)) ≤ total w l
-  sum-shares-le n [] = omega (arith, sum-none n)
-  sum-shares-le n (d ∷ l) =
-      ⊎-elim
-      (λ (e : ltb (f d) n ≡ true). let m : cond (ltb (f d) n) (w d) 0 ≡ w d = rw e in omega (arith, sum-more n d l, sum-shares-le n l))
-      (λ (e : ltb (f d) n ≡ false). let m : cond (ltb (f d) n) (w d) 0 ≡ 0 = rw e in omega (arith, sum-more n d l, sum-shares-le n l))
-      (which (ltb (f d) n))
 
   pub sum-shares : (n : ℕ) (l : List A) → all (λ (d : A). ltb (f d) n) l ≡ true → sumTo n (λ (p : ℕ). total w (keep (λ (d : A). eqb (f d) p) l)) ≡ total w l
   sum-shares n [] h = sum-none n

@@ -2,7 +2,7 @@
 -- Assumes nothing.
 use Prim.Native.Nat.{ℕ, suc, _+_, _-_, _≤_, _<_}
 use mathlib.Core.Path.{_≡_, _∙_, sym, ap}
-use mathlib.Core.Bool.{true, false, _&&_, _||_}
+use mathlib.Core.Bool.{true, _&&_, _||_}
 use mathlib.Core.Logic.{_⊎_, inl, inr, ⊎-elim}
 use mathlib.Core.List.{List, [], _∷_, _++_}
 use lib.ListN.{length, getD, take, drop, set, length-drop}
@@ -10,19 +10,19 @@ use lib.Seq.{take-suc-set, drop-cons, take-append-le}
 use lib.Dec.{leb, eqb}
 use native.Mathlib.Numerals.{add-one}
 use native.Mathlib.Omega.{arith}
-use borrow.Author.Tests.{eqb-true, eqb-false, ne-eqb}
+use borrow.Author.Tests.{eqb-true, ne-eqb}
 use Rattle.purse.specs.declared.Name.{Name}
 use Rattle.purse.specs.declared.Details.{Details}
 use Rattle.purse.specs.declared.Purse.{Purse}
 use Rattle.purse.specs.Details.{zeroDetails, sameDetails, named, asPayer, asPayee, entryOk}
 use Rattle.purse.specs.Purse.{ceiling, paysOk, getsOk, busyOk, wellFormed}
 use Rattle.purse.specs.Step.{stopped, taken}
-use Rattle.purse.proofs.Bools.{and-l, and-r, no-and, or-l, or-r, either, which}
-use Rattle.purse.proofs.Rules.{busy, busy-parts, room, wf-log, wf-bounds, busy-entry, Bounds}
+use Rattle.purse.proofs.Bools.{and-l, and-r, no-and, or-l, or-r, either}
+use Rattle.purse.proofs.Rules.{busy, busy-parts, room, wf-log, wf-bounds, Bounds}
 use Rattle.purse.proofs.Payments.{as-payer, as-payee, is-named}
 use Rattle.purse.proofs.Log.{used-at, log-long}
-use Rattle.purse.proofs.Count.{bit, bit-yes, times-append, is-all, all-take}
-use Rattle.rules.specs.Bench.{running, kept}
+use Rattle.purse.proofs.Count.{bit, times-append, is-all, all-take}
+use Rattle.rules.specs.Bench.{kept}
 use Rattle.rules.proofs.Facts.{details-equal, details-same, countD}
 
 pub record OwnPayer (own : Name) (p : Purse) : Type 0 where
@@ -81,23 +81,13 @@ module _ (own : Name) (p : Purse) (w : wellFormed own p ≡ true) where
       (either (paysOk p && asPayer own (p .next) (p .details)) (getsOk p && asPayee own (p .next) (p .details)) (busy-parts own p w (λ (z : p .status ≡ 0). omega arith)))
 
 module _ (own : Name) (p : Purse) (w : wellFormed own p ≡ true) where
-  -- each entry of the log, and running details, have a number that the purse has used
+  -- each entry of the log has a number that the purse has used
   pub kept-entry : (d : Details) → 1 ≤ countD d (kept p) → entryOk own (p .next) d ≡ true
   kept-entry =
       let b : Bounds p = wf-bounds own p w in
       is-all sameDetails details-equal details-same (entryOk own (p .next)) (kept p)
       (all-take (entryOk own (p .next)) zeroDetails (p .logged) (p .log) (omega (arith, log-long own p (wf-log own p w), b .logged)) (λ (i : ℕ) (l : i < p .logged).
       used-at own p (wf-log own p w) i (omega (arith, b .logged)) l .entry))
-
-  pub running-entry : (d : Details) → 1 ≤ countD d (running p) → entryOk own (p .next) d ≡ true
-  running-entry d h =
-      ⊎-elim
-      (λ (a : eqb (p .status) 0 ≡ true). let z : 1 ≤ 0 = rw a at h in absurd (omega arith))
-      (λ (a : eqb (p .status) 0 ≡ false).
-      let z : 1 ≤ bit (sameDetails d (p .details)) + 0 = rw a at h in
-      let e : d ≡ p .details = details-equal d (p .details) (bit-yes _ (omega arith)) in
-      rw e (busy-entry own p (busy own p w (eqb-false _ _ a))))
-      (which (eqb (p .status) 0))
 
   -- the log after an abort: the running details at its end
   pub kept-stopped : (p .status ≡ 0 → ⊥) → (d : Details) → countD d (kept (stopped p)) ≡ countD d (kept p) + bit (sameDetails d (p .details))
