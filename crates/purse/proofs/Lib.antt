@@ -11,3 +11,5 @@ pub mod Money
 pub mod Numbers
 pub mod Unique
 pub mod Edges
+pub mod Count
+pub mod Padded
