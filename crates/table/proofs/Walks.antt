@@ -3,17 +3,14 @@
 -- Assumes nothing.
 use Prim.Native.Nat.{ℕ, zero, suc, _+_, _≤_, _<_}
 use mathlib.Core.Path.{_≡_, refl, _∙_, sym, ap}
-use mathlib.Core.Bool.{Bool, true, false, _&&_, _||_, not, cond}
-use mathlib.Core.Logic.{⊎-elim}
+use mathlib.Core.Bool.{Bool, true, false, _&&_, _||_, not}
 use mathlib.Core.List.{List, [], _∷_, _++_}
 use lib.ListN.{length, take, drop, getD, drop-of-length-le}
-use lib.Seq.{take-suc, take-all, drop-cons}
-use lib.Dec.{ltb}
+use lib.Seq.{take-suc, drop-cons}
 use native.Mathlib.Numerals.{add-one}
 use native.Mathlib.Omega.{arith}
-use borrow.Author.Tests.{ltb-true, ltb-false}
 use Rattle.purse.specs.Lists.{all, among, distinct}
-use Rattle.purse.proofs.Bools.{and-l, and-r, and-i, which}
+use Rattle.purse.proofs.Bools.{and-l, and-r, and-i}
 
 pub and-assoc : (a b c : Bool) → ((a && b) && c) ≡ (a && (b && c))
 and-assoc true b c = refl
@@ -92,6 +89,11 @@ module _ {A : Type 0} where
   pub all-each : (f g : A → Bool) (l : List A) → ((x : A) → f x ≡ true → g x ≡ true) → all f l ≡ true → all g l ≡ true
   all-each f g [] h e = refl
   all-each f g (x ∷ l) h e = and-i (h x (and-l (f x) (all f l) e)) (all-each f g l h (and-r (f x) (all f l) e))
+
+  pub all-both : (f g k : A → Bool) (l : List A) → ((x : A) → f x ≡ true → g x ≡ true → k x ≡ true) → all f l ≡ true → all g l ≡ true → all k l ≡ true
+  all-both f g k [] h d e = refl
+  all-both f g k (x ∷ l) h d e =
+      and-i (h x (and-l (f x) (all f l) d) (and-l (g x) (all g l) e)) (all-both f g k l h (and-r (f x) (all f l) d) (and-r (g x) (all g l) e))
 
   -- at a place of the list it is no matter what stands past its end
   pub at-any : (l : List A) (i : ℕ) (y z : A) → i < length l → getD l i y ≡ getD l i z
