@@ -1,0 +1,13 @@
+use Rattle.purse.specs.Details.{legal}
+use Rattle.card.proofs.rules.is_legal.Statement.{statement}
+use Rattle.card.proofs.rules.is_legal.Tie as tie
+use Rattle.card.proofs.rules.is_legal.Reads as reads
+use Rattle.card.proofs.rules.is_legal.Lts as lts
+
+-- src/rules.rt:14:1
+returns : tie.Need-returns
+unfolding legal
+returns c = cc
+
+pub is-legal-spec : {M : Type 1} → statement M
+is-legal-spec = tie.close (tie.spec returns)
