@@ -6,13 +6,14 @@ use mathlib.Core.Bool.{Bool, true, false, _&&_, _||_}
 use mathlib.Core.Logic.{⊎-elim}
 use lib.Dec.{ltb, leb, eqb}
 use native.Mathlib.Omega.{arith}
-use borrow.Author.Tests.{ne-eqb, ltb-true, ltb-false, le-leb, lt-leb}
+use borrow.Author.Tests.{eq-eqb, ne-eqb, ltb-true, ltb-false, le-leb, lt-leb}
 use Rattle.purse.specs.declared.Name.{Name}
 use Rattle.purse.specs.declared.Message.{Message}
 use Rattle.purse.specs.declared.Purse.{Purse}
+use Rattle.purse.specs.declared.CardAnswer.{CardAnswer}
 use Rattle.purse.specs.Details.{zeroDetails, sameDetails, named, asPayer, asPayee}
 use Rattle.purse.specs.Purse.{ceiling, idleOk, busyOk}
-use Rattle.purse.specs.Step.{expected}
+use Rattle.purse.specs.Step.{refusedBy, unless, expected, idleWith, stopped, aborted, paid, received, settled, delivered}
 use Rattle.purse.proofs.Bools.{which}
 
 and-false : (a : Bool) → (a && false) ≡ false
@@ -77,3 +78,32 @@ module _ (p : Purse) (m : Message) where
   pub of-none : (m .kind ≡ 1 → ⊥) → (m .kind ≡ 2 → ⊥) → (m .kind ≡ 3 → ⊥) → expected p m ≡ false
   unfolding expected
   of-none a b c = simp (ne-eqb _ 1 a, ne-eqb _ 2 b, ne-eqb _ 3 c, and-false, or-false)
+
+-- the purse that an abort leaves, by its status
+module _ (p : Purse) where
+  pub quit-idle : p .status ≡ 0 → aborted p ≡ p
+  quit-idle e = simp (eq-eqb _ 0 e)
+
+  pub quit-epr : p .status ≡ 1 → aborted p ≡ idleWith (p .balance) p
+  quit-epr e = simp (ne-eqb (p .status) 0 (λ (z : p .status ≡ 0). omega arith), eq-eqb _ 1 e)
+
+  pub quit-busy : (p .status ≡ 0 → ⊥) → (p .status ≡ 1 → ⊥) → aborted p ≡ stopped p
+  quit-busy a b = simp (ne-eqb _ 0 a, ne-eqb _ 1 b)
+
+  -- what a delivered message does, by its kind
+  pub deliver-request : (k : ℕ) → k ≡ 1 → delivered p k ≡ paid p
+  deliver-request k e = simp (eq-eqb k 1 e)
+
+  pub deliver-value : (k : ℕ) → k ≡ 2 → delivered p k ≡ received p
+  deliver-value k e = simp (ne-eqb k 1 (λ (z : k ≡ 1). omega arith), eq-eqb k 2 e)
+
+  pub deliver-other : (k : ℕ) → (k ≡ 1 → ⊥) → (k ≡ 2 → ⊥) → delivered p k ≡ settled p
+  deliver-other k a b = simp (ne-eqb k 1 a, ne-eqb k 2 b)
+
+  -- an answer by its number: 0 does the step, any other refuses
+  module _ (n : ℕ) (a : CardAnswer) {k : ℕ} (e : k ≡ n) where
+    pub done-at : k ≡ 0 → unless n p a ≡ a
+    done-at z = simp (eq-eqb n 0 (sym e ∙ z))
+
+    pub refused-at : (k ≡ 0 → ⊥) → unless n p a ≡ refusedBy k p
+    refused-at z = simp (ne-eqb n 0 (λ (h : n ≡ 0). z (e ∙ h)), e)

@@ -61,7 +61,7 @@ pub fn deliver(p: Purse, own: Name, m: Message) -> CardAnswer
         match kind {
             1 => pay(p),
             2 => receive(p),
-            0 | 3..=255 => settle(p),
+            _ => settle(p),
         }
     } else {
         refused(p, n)

@@ -11,7 +11,7 @@ use purse::Name;
 use purse::Purse;
 ghost use mathlib.Core.Path.{_≡_};
 ghost use Prim.Native.Nat.{_<_};
-ghost use Rattle.purse.specs.Step.{stopped, taken, abortBy, collectBy};
+ghost use Rattle.purse.specs.Step.{stopped, aborted, taken, abortBy, collectBy};
 
 // The details at the end of the log, and the purse idle.
 fn stop(p: Purse) -> Purse
@@ -27,17 +27,25 @@ fn stop(p: Purse) -> Purse
 }
 
 // An idle purse stays as it is; from epr nothing is logged, from epv and epa the details are.
+fn quit(p: Purse) -> Purse
+    requires { ⌜ ((p .status ≡ 0 → ⊥) → p .logged < 8) ⌝ }
+    ensures { λ r. ⌜ r ≡ aborted p ⌝ }
+{
+    let status = p.status;
+    match status {
+        0 => p,
+        1 => idle(p, p.balance),
+        2..=255 => stop(p),
+    }
+}
+
+// A purse that is stopped: idle again, whatever it was busy with.
 pub fn abort(p: Purse, own: Name) -> CardAnswer
     ensures { λ r. ⌜ r ≡ abortBy p own ⌝ }
 {
     let n = abort_number(p, own);
     if n == 0 {
-        let status = p.status;
-        match status {
-            0 => gives(p, Message::zero(), Details::zero()),
-            1 => gives(idle(p, p.balance), Message::zero(), Details::zero()),
-            2..=255 => gives(stop(p), Message::zero(), Details::zero()),
-        }
+        gives(quit(p), Message::zero(), Details::zero())
     } else {
         refused(p, n)
     }

@@ -47,3 +47,6 @@ first-more (s ∷ ts) t k e =
     rw a (sym (after-found (s .number) t k (eqb-false _ _ (not-true _ (and-l (not (eqb (s .number) 0)) (numbered ts) e))))))
     (λ (a : s .applies ≡ false). rw a (first-more ts t k (and-r (not (eqb (s .number) 0)) (numbered ts) e)))
     (which (s .applies))
+
+pub more : (ts : List Test) (t : Bool) (k : ℕ) {found n : ℕ} → numbered ts ≡ true → found ≡ first ts → n ≡ after found t k → n ≡ first (ts ++ ((t ⇒ k) ∷ []))
+more ts t k e f g = g ∙ ap (λ (m : ℕ). after m t k) f ∙ sym (first-more ts t k e)

@@ -1,22 +1,20 @@
+use mathlib.Core.Path.{refl}
+use Rattle.purse.proofs.Tests.{more}
+use Rattle.purse.specs.Step.{ownTests, abortNumber, collectNumber}
+use lib.Dec.{eqb}
 use borrow.Author.Needs.{needs}
 use Rattle.card.proofs.numbers.collect_number.Statement.{statement}
 use Rattle.card.proofs.numbers.collect_number.Tie as tie
-use Rattle.card.proofs.numbers.collect_number.Reads as reads
-use Rattle.card.proofs.numbers.collect_number.Lts as lts
-use Rattle.card.proofs.numbers.abort_number.Reads as abort-number-reads
-use Rattle.purse.proofs.tested.Reads as tested-reads
 
--- src/numbers.rt:75:9
 abort-number-requires : tie.Need-abort-number-requires
 abort-number-requires c κs = search needs
 
--- src/numbers.rt:76:5
 tested-requires : tie.Need-tested-requires
 tested-requires c κs = search needs
 
--- src/numbers.rt:72:1
 returns : tie.Need-returns
-returns c = cc
+unfolding abortNumber collectNumber
+returns c = more (ownTests (c .before .before .before .args .p) (c .before .before .before .args .own)) (eqb (c .before .before .before .args .p .logged) 0) 14 refl (c .before .before .abort-number .ensures) (c .tested .ensures)
 
 pub collect-number-spec : {M : Type 1} → statement M
 collect-number-spec = tie.close (tie.spec abort-number-requires tested-requires returns)

@@ -6,47 +6,34 @@ use Rattle.purse.proofs.Log.{moved}
 use borrow.Author.Needs.{needs}
 use Rattle.card.proofs.records.take_oldest.Statement.{statement}
 use Rattle.card.proofs.records.take_oldest.Tie as tie
-use Rattle.card.proofs.records.take_oldest.Reads as reads
-use Rattle.card.proofs.records.take_oldest.Lts as lts
-use Rattle.purse.proofs.Details.zero.Reads as zero-reads
 
--- src/records.rt:52:9
 zero-requires : tie.Need-zero-requires
 zero-requires c κs = search needs
 
--- src/records.rt:53:18
 array-copy-out-t8 : tie.Need-array-copy-out-t8
 array-copy-out-t8 c = search needs
 
--- src/records.rt:53:24
 array-copy-out-t11 : tie.Need-array-copy-out-t11
 array-copy-out-t11 c = search needs
 
--- src/records.rt:53:30
 array-copy-out-t14 : tie.Need-array-copy-out-t14
 array-copy-out-t14 c = search needs
 
--- src/records.rt:53:36
 array-copy-out-t17 : tie.Need-array-copy-out-t17
 array-copy-out-t17 c = search needs
 
--- src/records.rt:53:42
 array-copy-out-t20 : tie.Need-array-copy-out-t20
 array-copy-out-t20 c = search needs
 
--- src/records.rt:53:48
 array-copy-out-t23 : tie.Need-array-copy-out-t23
 array-copy-out-t23 c = search needs
 
--- src/records.rt:53:54
 array-copy-out-t26 : tie.Need-array-copy-out-t26
 array-copy-out-t26 c = search needs
 
--- src/records.rt:56:16
 sub-q : tie.Need-sub-q
 sub-q c = search needs
 
--- src/records.rt:47:1
 long : (c : tie.Start) → length (c .args .p .log) ≡ 8
 long c = search (needs, unmapped)
 

@@ -1,10 +1,7 @@
 use Rattle.purse.specs.Details.{legal}
 use Rattle.card.proofs.rules.is_legal.Statement.{statement}
 use Rattle.card.proofs.rules.is_legal.Tie as tie
-use Rattle.card.proofs.rules.is_legal.Reads as reads
-use Rattle.card.proofs.rules.is_legal.Lts as lts
 
--- src/rules.rt:14:1
 returns : tie.Need-returns
 unfolding legal
 returns c = cc

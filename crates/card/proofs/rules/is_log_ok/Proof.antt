@@ -10,9 +10,6 @@ use Rattle.purse.proofs.Lists.{unmapped}
 use borrow.Author.Needs.{needs}
 use Rattle.card.proofs.rules.is_log_ok.Statement.{statement}
 use Rattle.card.proofs.rules.is_log_ok.Tie as tie
-use Rattle.card.proofs.rules.is_log_ok.Reads as reads
-use Rattle.card.proofs.rules.is_log_ok.Lts as lts
-use Rattle.card.proofs.rules.is_place_ok.Reads as is-place-ok-reads
 
 abbrev Inv-loop : tie.InvT-loop
 Inv-loop p own ok₀ i₀ ok i = (i ≤ 8) × (ok ≡ every i (placeOk own p))
@@ -20,27 +17,21 @@ Inv-loop p own ok₀ i₀ ok i = (i ≤ 8) × (ok ≡ every i (placeOk own p))
 abbrev μ-loop : tie.MeasureT-loop
 μ-loop p own ok₀ i₀ ok i = 8 - i
 
--- src/rules.rt:105:5
 loop-holds : tie.Need-loop-holds Inv-loop μ-loop
 loop-holds c = search needs
 
--- src/rules.rt:105:15
 cast-loop : tie.Need-cast-loop Inv-loop μ-loop
 cast-loop c = search needs
 
--- src/rules.rt:106:19
 is-place-ok-requires : tie.Need-is-place-ok-requires Inv-loop μ-loop
 is-place-ok-requires c κs = search needs
 
--- src/rules.rt:107:9
 add-i : tie.Need-add-i Inv-loop μ-loop
 add-i c = search needs
 
--- src/rules.rt:105:5
 loop-less : tie.Need-loop-less Inv-loop μ-loop
 loop-less c = search needs
 
--- src/rules.rt:105:5
 loop-again : tie.Need-loop-again Inv-loop μ-loop
 loop-again c = (omega arith, rw add-one cc)
 

@@ -1,10 +1,7 @@
 use Rattle.purse.specs.Details.{asPayee}
 use Rattle.card.proofs.rules.is_payee.Statement.{statement}
 use Rattle.card.proofs.rules.is_payee.Tie as tie
-use Rattle.card.proofs.rules.is_payee.Reads as reads
-use Rattle.card.proofs.rules.is_payee.Lts as lts
 
--- src/rules.rt:38:1
 returns : tie.Need-returns
 unfolding asPayee
 returns c = cc

@@ -1,10 +1,7 @@
 use Rattle.purse.specs.Details.{asPayer}
 use Rattle.card.proofs.rules.is_payer.Statement.{statement}
 use Rattle.card.proofs.rules.is_payer.Tie as tie
-use Rattle.card.proofs.rules.is_payer.Reads as reads
-use Rattle.card.proofs.rules.is_payer.Lts as lts
 
--- src/rules.rt:31:1
 returns : tie.Need-returns
 unfolding asPayer
 returns c = cc

@@ -2,76 +2,52 @@ use Rattle.card.proofs.Cases.{at-idle, at-epr, at-epv, at-epa, at-none}
 use borrow.Author.Needs.{needs}
 use Rattle.card.proofs.rules.is_status_ok.Statement.{statement}
 use Rattle.card.proofs.rules.is_status_ok.Tie as tie
-use Rattle.card.proofs.rules.is_status_ok.Reads as reads
-use Rattle.card.proofs.rules.is_status_ok.Lts as lts
-use Rattle.card.proofs.rules.is_named.Reads as is-named-reads
-use Rattle.card.proofs.rules.is_payee.Reads as is-payee-reads
-use Rattle.card.proofs.rules.is_payer.Reads as is-payer-reads
-use Rattle.purse.proofs.Details.same.Reads as same-reads
-use Rattle.purse.proofs.Details.zero.Reads as zero-reads
-use Rattle.purse.proofs.Purse.ceiling.Reads as ceiling-reads
 
--- src/rules.rt:72:9
 ceiling-requires : tie.Need-ceiling-requires
 ceiling-requires c κs = search needs
 
--- src/rules.rt:73:19
 is-named-requires : tie.Need-is-named-requires
 is-named-requires c κs = search needs
 
--- src/rules.rt:76:21
 zero-requires : tie.Need-zero-requires
 zero-requires c κs = search needs
 
--- src/rules.rt:76:14
 same-requires : tie.Need-same-requires
 same-requires c κs = search needs
 
--- src/rules.rt:77:55
 is-payer-requires : tie.Need-is-payer-requires
 is-payer-requires c κs = search needs
 
--- src/rules.rt:79:25
 cast-after : tie.Need-cast-after
 cast-after c = search needs
 
--- src/rules.rt:79:46
 cast-after-2 : tie.Need-cast-after-2
 cast-after-2 c = search needs
 
--- src/rules.rt:79:25
 add-after : tie.Need-add-after
 add-after c = search needs
 
--- src/rules.rt:80:34
 cast-result : tie.Need-cast-result
 cast-result c = search needs
 
--- src/rules.rt:80:49
 is-payee-requires : tie.Need-is-payee-requires
 is-payee-requires c κs = search needs
 
--- src/rules.rt:82:24
 is-payer-requires-2 : tie.Need-is-payer-requires-2
 is-payer-requires-2 c κs = search needs
 
--- src/rules.rt:67:1
 returns : tie.Need-returns
 returns c = simp (at-idle (c .before .before .before .before .before .before .before .before .args .own) (c .before .before .before .before .before .before .before .before .args .p) (c .before .before .match .keys1)) cc
 
--- src/rules.rt:67:1
 returns-2 : tie.Need-returns-2
 returns-2 c = simp (at-epr (c .before .before .before .before .before .before .before .before .before .args .own) (c .before .before .before .before .before .before .before .before .before .args .p) (c .before .before .before .match .keys2)) cc
 
--- src/rules.rt:67:1
 returns-3 : tie.Need-returns-3
 returns-3 c = simp (at-epv (c .before .before .before .before .before .before .before .before .before .args .own) (c .before .before .before .before .before .before .before .before .before .args .p) (c .before .before .before .match .keys3)) cc
 
--- src/rules.rt:67:1
 returns-4 : tie.Need-returns-4
 returns-4 c = simp (at-epa (c .before .before .before .before .before .before .before .args .own) (c .before .before .before .before .before .before .before .args .p) (c .before .match .keys4)) cc
 
--- src/rules.rt:67:1
 returns-5 : tie.Need-returns-5
 returns-5 c = simp (at-none (c .before .before .before .before .before .before .args .own) (c .before .before .before .before .before .before .args .p) (c .match .rest .0 .0 .0 .1) (c .match .rest .0 .0 .1) (c .match .rest .0 .1) (c .match .rest .1))
 

@@ -1,46 +1,37 @@
+use native.Mathlib.Omega.{arith}
+use mathlib.Core.Path.{_≡_, sym, _∙_}
+use borrow.Author.Tests.{eq-eqb, ne-eqb}
+use Rattle.purse.specs.Step.{startFrom}
+use Rattle.purse.proofs.Steps.{ready-from}
 use borrow.Author.Needs.{needs}
 use Rattle.card.proofs.starts.start_from.Statement.{statement}
 use Rattle.card.proofs.starts.start_from.Tie as tie
-use Rattle.card.proofs.starts.start_from.Reads as reads
-use Rattle.card.proofs.starts.start_from.Lts as lts
-use Rattle.card.proofs.answers.gives.Reads as gives-reads
-use Rattle.card.proofs.answers.refused.Reads as refused-reads
-use Rattle.card.proofs.numbers.from_number.Reads as from-number-reads
-use Rattle.card.proofs.starts.begun.Reads as begun-reads
-use Rattle.purse.proofs.Details.zero.Reads as Details-zero-reads
-use Rattle.purse.proofs.Message.zero.Reads as Message-zero-reads
 
--- src/starts.rt:34:9
 from-number-requires : tie.Need-from-number-requires
 from-number-requires c κs = search needs
 
--- src/starts.rt:44:15
 begun-requires : tie.Need-begun-requires
-begun-requires c κs = search needs
+begun-requires c κs = let h : (c .before .before .before .args .p .next .0 ≡ 4294967295 → ⊥) = ready-from (c .before .before .before .args .p) (c .before .before .before .args .own) (c .before .before .before .args .other) (c .before .before .before .args .amount) (sym (c .before .before .from-number .ensures) ∙ c .before .if1 .taken) .number in omega arith
 
--- src/starts.rt:44:31
 zero-requires : tie.Need-zero-requires
 zero-requires c κs = search needs
 
--- src/starts.rt:44:48
 zero-requires-2 : tie.Need-zero-requires-2
 zero-requires-2 c κs = search needs
 
--- src/starts.rt:44:9
 gives-requires : tie.Need-gives-requires
 gives-requires c κs = search needs
 
--- src/starts.rt:46:9
 refused-requires : tie.Need-refused-requires
 refused-requires c κs = search needs
 
--- src/starts.rt:31:1
 returns : tie.Need-returns
-returns c = cc
+unfolding startFrom
+returns c = simp (eq-eqb _ 0 (sym (c .before .before .before .before .before .before .from-number .ensures) ∙ c .before .before .before .before .before .if1 .taken)) cc
 
--- src/starts.rt:31:1
 returns-2 : tie.Need-returns-2
-returns-2 c = cc
+unfolding startFrom
+returns-2 c = simp (ne-eqb _ 0 (λ h. c .before .if1 .left (c .before .before .from-number .ensures ∙ h))) cc
 
 pub start-from-spec : {M : Type 1} → statement M
 start-from-spec =
