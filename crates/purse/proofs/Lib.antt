@@ -6,3 +6,8 @@ pub mod Log
 pub mod Rules
 pub mod Steps
 pub mod Keep
+pub mod Refused
+pub mod Money
+pub mod Numbers
+pub mod Unique
+pub mod Edges
