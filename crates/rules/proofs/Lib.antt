@@ -4,3 +4,15 @@ pub mod Facts
 pub mod Places
 pub mod Puts
 pub mod Purses
+pub mod Ladders
+pub mod Moves
+pub mod Kept
+pub mod History
+pub mod Orders
+pub mod Answers
+pub mod Opened
+pub mod Stopped
+pub mod Safe
+pub mod Carried
+pub mod Worked
+pub mod Demands
