@@ -1,0 +1,5 @@
+pub mod Walks
+pub mod Same
+pub mod Beside
+pub mod Once
+pub mod Held
