@@ -3,20 +3,14 @@ use borrow.Author.Tests.{ne-eqb, eq-eqb, le-leb, lt-leb}
 use borrow.Author.Needs.{needs}
 use Rattle.bench.proofs.acts.carry.Statement.{statement}
 use Rattle.bench.proofs.acts.carry.Tie as tie
-use Rattle.bench.proofs.acts.carry.Reads as reads
-use Rattle.bench.proofs.acts.carry.Lts as lts
-use Rattle.bench.proofs.acts.send.Reads as send-reads
 
--- src/acts.rt:120:9
 send-requires : tie.Need-send-requires
 send-requires c κs = search needs
 
--- src/acts.rt:113:1
 returns : tie.Need-returns
 unfolding carriedOn
 returns c = simp (eq-eqb _ 0 (c .before .before .before .if1 .taken), c .send .ensures)
 
--- src/acts.rt:113:1
 returns-2 : tie.Need-returns-2
 unfolding carriedOn
 returns-2 c = simp (ne-eqb _ 0 (c .if1 .left))

@@ -3,25 +3,17 @@ use borrow.Author.Tests.{ne-eqb, eq-eqb, le-leb, lt-leb}
 use borrow.Author.Needs.{needs}
 use Rattle.bench.proofs.acts.collect.Statement.{statement}
 use Rattle.bench.proofs.acts.collect.Tie as tie
-use Rattle.bench.proofs.acts.collect.Reads as reads
-use Rattle.bench.proofs.acts.collect.Lts as lts
-use Rattle.bench.proofs.acts.archive.Reads as archive-reads
-use Rattle.bench.proofs.card.step.Reads as step-reads
 
--- src/acts.rt:204:13
 step-requires : tie.Need-step-requires
 step-requires c κs = search needs
 
--- src/acts.rt:205:9
 archive-requires : tie.Need-archive-requires
 archive-requires c κs = search needs
 
--- src/acts.rt:200:1
 returns : tie.Need-returns
 unfolding collectedOn
 returns c = simp (eq-eqb _ 0 (c .before .before .if1 .taken), c .archive .ensures, c .before .step .ensures)
 
--- src/acts.rt:200:1
 returns-2 : tie.Need-returns-2
 unfolding collectedOn
 returns-2 c = simp (ne-eqb _ 0 (c .if1 .left))

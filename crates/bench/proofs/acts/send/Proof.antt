@@ -3,25 +3,17 @@ use borrow.Author.Tests.{ne-eqb, eq-eqb, le-leb, lt-leb}
 use borrow.Author.Needs.{needs}
 use Rattle.bench.proofs.acts.send.Statement.{statement}
 use Rattle.bench.proofs.acts.send.Tie as tie
-use Rattle.bench.proofs.acts.send.Reads as reads
-use Rattle.bench.proofs.acts.send.Lts as lts
-use Rattle.desk.proofs.Ether.add.Reads as add-reads
-use Rattle.purse.proofs.tested.Reads as tested-reads
 
--- src/acts.rt:93:9
 returns : tie.Need-returns
 unfolding sentOn
 returns c = simp (eq-eqb _ 0 (c .if1 .taken))
 
--- src/acts.rt:100:9
 add-requires : tie.Need-add-requires
 add-requires c κs = search needs
 
--- src/acts.rt:102:9
 tested-requires : tie.Need-tested-requires
 tested-requires c κs = search needs
 
--- src/acts.rt:89:1
 returns-2 : tie.Need-returns-2
 unfolding sentOn
 returns-2 c = simp (ne-eqb _ 0 (c .before .before .before .before .if1 .left), c .tested .ensures, c .before .before .add .ensures)

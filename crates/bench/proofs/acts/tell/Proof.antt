@@ -3,25 +3,17 @@ use borrow.Author.Tests.{ne-eqb, eq-eqb, le-leb, lt-leb}
 use borrow.Author.Needs.{needs}
 use Rattle.bench.proofs.acts.tell.Statement.{statement}
 use Rattle.bench.proofs.acts.tell.Tie as tie
-use Rattle.bench.proofs.acts.tell.Reads as reads
-use Rattle.bench.proofs.acts.tell.Lts as lts
-use Rattle.bench.proofs.acts.carry.Reads as carry-reads
-use Rattle.bench.proofs.card.step.Reads as step-reads
 
--- src/acts.rt:135:13
 step-requires : tie.Need-step-requires
 step-requires c κs = search needs
 
--- src/acts.rt:136:9
 carry-requires : tie.Need-carry-requires
 carry-requires c κs = search needs
 
--- src/acts.rt:131:1
 returns : tie.Need-returns
 unfolding toldOn
 returns c = simp (eq-eqb _ 0 (c .before .before .if1 .taken), c .carry .ensures, c .before .step .ensures)
 
--- src/acts.rt:131:1
 returns-2 : tie.Need-returns-2
 unfolding toldOn
 returns-2 c = simp (ne-eqb _ 0 (c .if1 .left))
