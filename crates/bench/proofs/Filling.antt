@@ -1,6 +1,6 @@
 -- A run: the places of the answers fill one by one, the events are the pieces one by one, and every step keeps the rules.
 -- Assumes nothing.
-use Prim.Native.Nat.{ℕ, zero, suc, _+_, _*_, _-_, _<_, _≤_}
+use Prim.Native.Nat.{ℕ, zero, suc, _+_, _*_, _-_, _/_, _<_, _≤_}
 use mathlib.Core.Path.{_≡_, refl, _∙_, sym, ap}
 use mathlib.Core.Bool.{true, false}
 use mathlib.Core.List.{List, [], _∷_, _++_, append-assoc, append-nil}
@@ -8,13 +8,17 @@ use lib.ListN.{length, take, drop, set, replicate, length-set, take-append-drop}
 use lib.Seq.{drop-drop, drop-set-lt, take-suc-set}
 use native.Mathlib.Numerals.{add-one}
 use native.Mathlib.Omega.{arith}
+use mathlib.Core.Logic.{⊎-elim}
+use lib.Dec.{leb}
+use borrow.Author.Tests.{leb-true, leb-false}
+use Rattle.purse.proofs.Bools.{which}
 use Rattle.desk.specs.declared.Held.{Held}
 use Rattle.desk.specs.declared.Answered.{Answered}
 use Rattle.rules.specs.Events.{decoded}
 use Rattle.rules.specs.Laid.{heldOk, heldStep, heldRun, heldAnswers}
 use Rattle.rules.proofs.Carried.{held-kept}
 use Rattle.bench.specs.Acts.{byRecord}
-use Rattle.bench.specs.Runs.{pieces}
+use Rattle.bench.specs.Runs.{smaller, pieces}
 use Rattle.bench.proofs.ByRecord.{step-by-record}
 
 -- places filled from the front: those filled are the front of `whole`, the others as they were
@@ -116,3 +120,23 @@ twos-on before now n i l m f =
     let e : n - i ≡ suc (n - (i + 1)) = omega arith in
     let g : Filled (replicate n 2) (2 ∷ replicate (n - (i + 1)) 2) before now i = rw e at f in
     fill-one _ _ before now i 2 (omega arith) g
+
+pub twos-end : (before now : List ℕ) (n i : ℕ) → i ≤ n → n ≤ i → Filled (replicate n 2) (replicate (n - i) 2) before now i → now ≡ replicate n 2 ++ drop n before
+twos-end before now n i l m f =
+    let e : n - i ≡ 0 = omega arith in
+    let k : i ≡ n = omega arith in
+    let g : Filled (replicate n 2) [] before now i = rw e at f in
+    fill-done _ before now i g ∙ ap (λ (j : ℕ). replicate n 2 ++ drop j before) k
+
+-- the events taken are whole, and each has a place
+pub taken-fits : (n x y : ℕ) → n ≡ smaller (x / 12) y → (12 * n ≤ x) × (n ≤ y)
+taken-fits n x y e =
+    ⊎-elim
+    (λ (w : leb (x / 12) y ≡ true).
+    let k : n ≡ x / 12 = e ∙ rw w refl in
+    (omega arith, omega (arith, leb-true _ _ w)))
+    (λ (w : leb (x / 12) y ≡ false).
+    let k : n ≡ y = e ∙ rw w refl in
+    let l : y < x / 12 = leb-false _ _ w in
+    (omega arith, omega arith))
+    (which (leb (x / 12) y))

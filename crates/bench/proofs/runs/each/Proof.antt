@@ -18,7 +18,7 @@ abbrev μ-loop : tie.MeasureT-loop
 μ-loop input answers₀ n h₀ i₀ answers h i = n - i
 
 loop-holds : tie.Need-loop-holds Inv-loop μ-loop
-loop-holds c = ?
+loop-holds c = going-start _ _ _ _ (c .before .before .pre .0)
 
 mul-at : tie.Need-mul-at Inv-loop μ-loop
 mul-at c = search needs
@@ -48,13 +48,25 @@ loop-less : tie.Need-loop-less Inv-loop μ-loop
 loop-less c = search needs
 
 loop-again : tie.Need-loop-again Inv-loop μ-loop
-loop-again c = ?
+loop-again c = 
+    let at-loop = c .before .before .before .before in
+    let start = at-loop .before .before .before in
+    let i = at-loop .loop .i in
+    let twelve : 12 * i + 12 - 12 * i ≡ 12 = omega arith in
+    let said : c .before .by-record .result ≡ byRecord (at-loop .loop .h) (decoded (take 12 (drop (12 * i) (start .args .input .now)))) =
+    c .before .by-record .ensures
+    ∙ ap (λ (k : ℕ). byRecord (at-loop .loop .h) (decoded (take k (drop (12 * i) (start .args .input .now))))) twelve
+    in
+    going-on (start .args .held) (at-loop .loop .h) (start .args .input .now) (start .args .answers .now) (at-loop .loop .answers) (start .args .n) i (c .before .by-record .result)
+    (omega arith) (start .pre .2) said (at-loop .loop .inv)
 
 same-length : tie.Need-same-length Inv-loop μ-loop
 same-length c = search needs
 
 returns : tie.Need-returns Inv-loop μ-loop
-returns c = ?
+returns c = 
+    let at-loop = c .before in
+    going-end _ _ _ _ _ _ _ (omega arith) (at-loop .loop .inv)
 
 pub each-spec : {M : Type 1} → statement M
 each-spec =

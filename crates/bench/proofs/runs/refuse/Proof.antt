@@ -1,3 +1,4 @@
+use Rattle.bench.proofs.Filling.{twos-end}
 use Rattle.bench.proofs.Filling.{Filled, fill-none, fill-done, twos-on}
 use lib.ListN.{length, replicate}
 use Prim.Native.Nat.{ℕ, _+_, _*_, _-_, _≤_, _<_}
@@ -14,7 +15,9 @@ abbrev μ-loop : tie.MeasureT-loop
 μ-loop answers₀ n i₀ answers i = n - i
 
 loop-holds : tie.Need-loop-holds Inv-loop μ-loop
-loop-holds c = ?
+loop-holds c = 
+    let e : c .args .n - 0 ≡ c .args .n = omega arith in
+    (omega arith, rw e (fill-none _ _))
 
 slice-write-answers : tie.Need-slice-write-answers Inv-loop μ-loop
 slice-write-answers c = search needs
@@ -26,13 +29,13 @@ loop-less : tie.Need-loop-less Inv-loop μ-loop
 loop-less c = search needs
 
 loop-again : tie.Need-loop-again Inv-loop μ-loop
-loop-again c = ?
+loop-again c = (omega arith, twos-on _ _ _ _ (omega arith) (c .before .before .pre) (c .before .loop .inv .1))
 
 same-length : tie.Need-same-length Inv-loop μ-loop
 same-length c = search needs
 
 returns : tie.Need-returns Inv-loop μ-loop
-returns c = ?
+returns c = twos-end _ _ _ _ (omega arith) (omega arith) (c .before .loop .inv .1)
 
 pub refuse-spec : {M : Type 1} → statement M
 refuse-spec =

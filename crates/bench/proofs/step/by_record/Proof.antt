@@ -1,3 +1,4 @@
+use Rattle.purse.specs.declared.Purse.{Purse}
 use Rattle.bench.proofs.ByRecord.{place-below}
 use Rattle.bench.specs.Acts.{placeOf, actOn, putBack, byRecord}
 use Rattle.table.proofs.Walks.{at-any}
@@ -41,7 +42,21 @@ element-set-from-q c =
 
 returns : tie.Need-returns
 unfolding byRecord
-returns c = ?
+returns c = 
+    let placed = c .before .before .before .before .before in
+    let start = placed .before .before .before in
+    let h = start .args .t1 in
+    let i = placed .place-of .result in
+    let e = placed .before .decode .result in
+    let below : i < 32 = rw (placed .place-of .ensures) (place-below e) in
+    let long : length (h .table) ≡ 32 = simp length-map at (start .good .0 .1 .1 .0 .1 .0 .1) in
+    let inside : i < length (h .table) = omega arith in
+    let a : c .before .before .act .result ≡ actOn (getD (h .table) i zeroPurse) (h .desk) e =
+    c .before .before .act .ensures ∙ ap (λ (p : Purse). actOn p (h .desk) e) (at-any (h .table) i _ zeroPurse inside)
+    in
+    ap (putBack h i) a
+    ∙ (ap (λ (k : ℕ). putBack h k (actOn (getD (h .table) k zeroPurse) (h .desk) e)) (placed .place-of .ensures)
+    ∙ ap (byRecord h) (placed .before .decode .ensures))
 
 pub by-record-spec : {M : Type 1} → statement M
 by-record-spec =
