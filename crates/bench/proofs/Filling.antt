@@ -134,7 +134,7 @@ taken-fits n x y e =
     ⊎-elim
     (λ (w : leb (x / 12) y ≡ true).
     let k : n ≡ x / 12 = e ∙ rw w refl in
-    (omega arith, omega (arith, leb-true _ _ w)))
+    (omega arith, omega (arith, leb-true (x / 12) y w)))
     (λ (w : leb (x / 12) y ≡ false).
     let k : n ≡ y = e ∙ rw w refl in
     let l : y < x / 12 = leb-false _ _ w in

@@ -25,7 +25,7 @@ use Rattle.desk.specs.Desk.{zeroEntry}
 use Rattle.rules.specs.Bench.{Bench, purseAt, archivedBy}
 use Rattle.rules.specs.Table.{tableOk, countsOk, purseOk, messageOk, archiveOk, onceOk, clearOk, inTable}
 use Rattle.rules.specs.Paid.{amountOf, claimedWith, claims}
-use Rattle.rules.specs.Laid.{seen, heldOk}
+use Rattle.rules.specs.Laid.{seen, placesOk, isZeroPurse, isZeroMessage, isZeroEntry, heldOk}
 use Rattle.rules.proofs.Facts.{is-in}
 use Rattle.table.proofs.Walks.{all-at, all-each}
 use Rattle.bench.specs.Claims.{archived, hit, claimOf, bounded}
@@ -138,6 +138,19 @@ module _ (h : Held) (w : heldOk h ≡ true) where
 
   entries : all (archiveOk here) (here .archive) ≡ true
   entries = entries-ok here (held-table h w)
+
+  pub held-few : h .desk .archive .count ≤ 256
+  unfolding heldOk
+  held-few =
+      let ps : Bool = placesOk isZeroPurse 32 (h .desk .purses) (h .table) in
+      let ms : Bool = placesOk isZeroMessage 256 (h .desk .ether .count) (h .desk .ether .places) in
+      let es : Bool = placesOk isZeroEntry 256 (h .desk .archive .count) (h .desk .archive .places) in
+      let many : Bool = eqb (length (h .desk .archive .places)) 256 in
+      let fits : Bool = leb (h .desk .archive .count) 256 in
+      leb-true (h .desk .archive .count) 256
+      (and-r many fits
+      (and-l (many && fits) (all isZeroEntry (drop (h .desk .archive .count) (h .desk .archive .places)))
+      (and-r (ps && ms) es (and-l (ps && ms && es) (tableOk (seen h)) w))))
 
   pub held-bounded : all bounded (archived (h .desk .archive)) ≡ true
   unfolding archiveOk

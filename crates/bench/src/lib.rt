@@ -4,7 +4,6 @@ use desk::Desk;
 use desk::Held;
 use purse::Purse;
 
-mod stub;
 pub mod acts; // acts.rt: what an event does at one record and the desk
 pub mod events; // events.rt: an event's bytes read
 pub mod open; // open.rt: a bench opened

@@ -1,5 +1,4 @@
 // The claims figure: what is owed to payers, over the pairs with both entries in the archive. One pass, entry by entry.
-use crate::stub;
 use desk::Archive;
 use desk::Entry;
 use desk::Figure;
@@ -72,7 +71,7 @@ fn sum(a: Archive) -> u32
 pub fn claims(held: Held) -> Figure
     ensures { λ r. ⌜ r ≡ heldClaims held ⌝ }
 {
-    if stub::held_ok(held) {
+    if table::held_ok(held) {
         let d = held.desk;
         let a = d.archive;
         Figure {

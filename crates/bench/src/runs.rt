@@ -1,7 +1,6 @@
 // Many events: the rules are tested once, since every step keeps them.
 use crate::Ran;
 use crate::step::by_record;
-use crate::stub;
 use desk::Held;
 ghost use mathlib.Core.Path.{_≡_};
 ghost use mathlib.Core.Bool.{true};
@@ -55,7 +54,7 @@ pub fn run(held: Held, input: &[u8], answers: &mut [u8]) -> Ran
         × (now (answers .exit) ≡ heldAnswers held (pieces (taken (now (input .entry)) (now (answers .entry))) (now (input .entry))) ++ drop (taken (now (input .entry)) (now (answers .entry))) (now (answers .entry))) ⌝ }
 {
     let n = smaller(input.len() / 12, answers.len());
-    if stub::held_ok(held) {
+    if table::held_ok(held) {
         let h = each(held, input, answers, n);
         Ran {
             taken: n,

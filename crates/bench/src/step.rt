@@ -2,7 +2,6 @@
 use crate::acts::act;
 use crate::acts::place_of;
 use crate::events::decode;
-use crate::stub;
 use desk::Answered;
 use desk::Held;
 ghost use mathlib.Core.Path.{_≡_};
@@ -33,7 +32,7 @@ pub fn by_record(held: Held, event: &[u8]) -> Answered
 pub fn event(held: Held, event: &[u8]) -> Answered
     ensures { λ r. ⌜ r ≡ heldStep held (now (event .entry)) ⌝ }
 {
-    if stub::held_ok(held) {
+    if table::held_ok(held) {
         by_record(held, event)
     } else {
         Answered {

@@ -3,13 +3,14 @@
 -- has are apart by its own record, by the archive alone, and by the archive beside the record (Once).
 -- Assumes nothing.
 use Prim.Native.Nat.{ℕ, _+_, _-_, _≤_, _<_}
-use mathlib.Core.Path.{_≡_, refl, sym, _∙_}
+use mathlib.Core.Path.{_≡_, refl, sym, _∙_, ap}
 use mathlib.Core.Bool.{Bool, true, false, _&&_, not}
 use mathlib.Core.Logic.{⊎-elim}
 use mathlib.Core.List.{List, _++_}
 use lib.ListN.{length, take, drop, getD, length-drop}
 use lib.Seq.{length-take-le, getD-take, getD-drop}
 use lib.Dec.{ltb, leb, eqb}
+use native.Mathlib.Numerals.{add-one}
 use native.Mathlib.Omega.{arith}
 use borrow.Author.Tests.{leb-true, le-leb, ltb-true, ltb-false, lt-ltb, le-ltb, eqb-true, eq-eqb}
 use Rattle.purse.specs.declared.Details.{Details}
@@ -28,7 +29,7 @@ use Rattle.rules.specs.Bench.{Bench, called, purseAt, running, kept, archivedBy
 use Rattle.rules.specs.Table.{countsOk, inTable, purseOk, messageOk, archiveOk, onceOk, clearOk, tableOk}
 use Rattle.rules.specs.Laid.{seen, isZeroPurse, isZeroMessage, isZeroEntry, placesOk, heldOk}
 use Rattle.table.specs.Records.{standing, collected, when, within, messageAlone, etherAlone, entryAlone, archiveAlone, deskOk, messageBeside, holds, entryBeside, namesOk, purseBeside, recordOk, byRecords}
-use Rattle.table.proofs.Walks.{all-at, all-is, all-each, all-both}
+use Rattle.table.proofs.Walks.{and-assoc, all-at, all-is, all-each, all-both}
 use Rattle.table.proofs.Same.{together}
 use Rattle.table.proofs.Beside.{within-table, message-alone, message-beside, message-whole, entry-alone, entry-beside, entry-whole, entry-once}
 use Rattle.table.proofs.Once.{record-apart, archived-apart, apart-archived, once-parts}
@@ -202,11 +203,11 @@ zero-places f many n l z e k h =
 
 -- a record's test, by its place
 module _ (d : Desk) (i : ℕ) (p : Purse) where
-  is-used : i < d .purses → recordOk d i p ≡ purseBeside d i p
+  pub is-used : i < d .purses → recordOk d i p ≡ purseBeside d i p
   unfolding recordOk
   is-used g = rw (lt-ltb i (d .purses) g)
 
-  is-unused : d .purses ≤ i → recordOk d i p ≡ isZeroPurse p
+  pub is-unused : d .purses ≤ i → recordOk d i p ≡ isZeroPurse p
   unfolding recordOk
   is-unused g = rw (le-ltb i (d .purses) g)
 
@@ -303,3 +304,15 @@ module _ (h : Held) where
 
   pub held-by-records : heldOk h ≡ byRecords h
   held-by-records = together (heldOk h) (byRecords h) to from
+
+-- a loop over the records: one more of them, and all
+pub more-every : (f : ℕ → Bool) (i : ℕ) (ok₀ : Bool) {ok r : Bool} → ok ≡ (ok₀ && every i f) → r ≡ f i → (ok && r) ≡ (ok₀ && every (i + 1) f)
+more-every f i ok₀ e k = rw (e, k, add-one i) (and-assoc ok₀ (every i f) (f i))
+
+pub held-walked : (h : Held) (i : ℕ) (ok₀ : Bool) {ok : Bool} → length (h .table) ≡ 32 → i ≡ 32 → ok₀ ≡ deskOk (h .desk) → ok ≡ (ok₀ && every i (λ (j : ℕ). recordOk (h .desk) j (getD (h .table) j zeroPurse))) → ok ≡ heldOk h
+unfolding byRecords
+held-walked h i ok₀ {ok} long full d k =
+    let f : ℕ → Bool = λ (j : ℕ). recordOk (h .desk) j (getD (h .table) j zeroPurse) in
+    let a : ok ≡ (deskOk (h .desk) && every 32 f) = k ∙ ap (λ (n : ℕ). ok₀ && every n f) full ∙ ap (λ (b : Bool). b && every 32 f) d in
+    let w : byRecords h ≡ (deskOk (h .desk) && every 32 f) = ap (λ (b : Bool). b && deskOk (h .desk) && every 32 f) (eq-eqb (length (h .table)) 32 long) in
+    a ∙ sym w ∙ sym (held-by-records h)

@@ -3,3 +3,4 @@ pub mod Same
 pub mod Beside
 pub mod Once
 pub mod Held
+pub mod Record

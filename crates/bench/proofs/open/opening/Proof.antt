@@ -7,20 +7,13 @@ use borrow.Author.Tests.{eq-eqb, ne-eqb, le-leb, lt-leb}
 use borrow.Author.Needs.{needs}
 use Rattle.bench.proofs.open.opening.Statement.{statement}
 use Rattle.bench.proofs.open.opening.Tie as tie
-use Rattle.bench.proofs.open.opening.Reads as reads
-use Rattle.bench.proofs.open.opening.Lts as lts
-use Rattle.bench.proofs.open.opened.Reads as opened-reads
-use Rattle.bench.proofs.open.opening_number.Reads as opening-number-reads
 
--- src/open.rt:68:9
 opening-number-requires : tie.Need-opening-number-requires
 opening-number-requires c κs = search needs
 
--- src/open.rt:70:13
 opened-requires : tie.Need-opened-requires
 opened-requires c κs = opens _ (sym (c .before .opening-number .ensures) ∙ c .if1 .taken) .few
 
--- src/open.rt:65:1
 returns : tie.Need-returns
 unfolding heldOpening
 returns c = 
@@ -29,7 +22,6 @@ returns c =
     let none : openingNumber (start .args .balances .now) ≡ 0 = sym (c .before .before .opening-number .ensures) ∙ c .before .if1 .taken in
     simp (eq-eqb _ 32 long, eq-eqb _ 0 none, c .opened .ensures)
 
--- src/open.rt:65:1
 returns-2 : tie.Need-returns-2
 unfolding heldOpening
 returns-2 c = 

@@ -1,26 +1,30 @@
+use Rattle.bench.proofs.Summed.{held-few, held-bounded, claims-once}
+use Rattle.rules.specs.Laid.{heldOk, heldClaims}
+use mathlib.Core.Bool.{true}
+use mathlib.Core.Path.{_≡_, refl, _∙_, sym, ap}
 use borrow.Author.Needs.{needs}
 use Rattle.bench.proofs.owed.claims.Statement.{statement}
 use Rattle.bench.proofs.owed.claims.Tie as tie
-use Rattle.bench.proofs.owed.claims.Reads as reads
-use Rattle.bench.proofs.owed.claims.Lts as lts
-use Rattle.bench.proofs.owed.sum.Reads as sum-reads
-use Rattle.bench.proofs.stub.held_ok.Reads as held-ok-reads
 
--- src/owed.rt:75:8
 held-ok-requires : tie.Need-held-ok-requires
 held-ok-requires c κs = search needs
 
--- src/owed.rt:80:21
 sum-requires : tie.Need-sum-requires
-sum-requires c κs = search needs
+sum-requires c κs = 
+    let h = c .before .before .before .before .args .held in
+    let ok : heldOk h ≡ true = sym (c .before .before .before .held-ok .ensures) ∙ c .before .before .if1 .taken in
+    (held-few h ok, held-bounded h ok)
 
--- src/owed.rt:72:1
 returns : tie.Need-returns
-returns c = ?
+unfolding heldClaims
+returns c = 
+    let h = c .before .before .before .before .before .args .held in
+    let ok : heldOk h ≡ true = sym (c .before .before .before .before .held-ok .ensures) ∙ c .before .before .before .if1 .taken in
+    simp (ok, c .sum .ensures, claims-once h ok)
 
--- src/owed.rt:72:1
 returns-2 : tie.Need-returns-2
-returns-2 c = ?
+unfolding heldClaims
+returns-2 c = simp (sym (c .before .held-ok .ensures) ∙ c .if1 .left)
 
 pub claims-spec : {M : Type 1} → statement M
 claims-spec = tie.close (tie.spec held-ok-requires sum-requires returns returns-2)

@@ -9,9 +9,6 @@ use native.Mathlib.Omega.{arith}
 use borrow.Author.Needs.{needs}
 use Rattle.bench.proofs.owed.sum.Statement.{statement}
 use Rattle.bench.proofs.owed.sum.Tie as tie
-use Rattle.bench.proofs.owed.sum.Reads as reads
-use Rattle.bench.proofs.owed.sum.Lts as lts
-use Rattle.bench.proofs.owed.claim.Reads as claim-reads
 
 abbrev Inv-loop : tie.InvT-loop
 Inv-loop a count i₀ sum₀ i sum = 
@@ -20,27 +17,21 @@ Inv-loop a count i₀ sum₀ i sum =
 abbrev μ-loop : tie.MeasureT-loop
 μ-loop a count i₀ sum₀ i sum = count - i
 
--- src/owed.rt:61:17
 cast-count : tie.Need-cast-count Inv-loop μ-loop
 cast-count c = search needs
 
--- src/owed.rt:64:5
 loop-holds : tie.Need-loop-holds Inv-loop μ-loop
 loop-holds c = (omega arith, omega arith, omega arith)
 
--- src/owed.rt:65:17
 mul-e : tie.Need-mul-e Inv-loop μ-loop
 mul-e c = search needs
 
--- src/owed.rt:65:17
 element-copy-out-e : tie.Need-element-copy-out-e Inv-loop μ-loop
 element-copy-out-e c = search needs
 
--- src/owed.rt:66:16
 claim-requires : tie.Need-claim-requires Inv-loop μ-loop
 claim-requires c κs = search needs
 
--- src/owed.rt:66:9
 add-sum : tie.Need-add-sum Inv-loop μ-loop
 add-sum c = 
     let at-loop = c .before .before .before in
@@ -53,15 +44,12 @@ add-sum c =
     in
     search needs
 
--- src/owed.rt:67:9
 add-i : tie.Need-add-i Inv-loop μ-loop
 add-i c = search needs
 
--- src/owed.rt:64:5
 loop-less : tie.Need-loop-less Inv-loop μ-loop
 loop-less c = search needs
 
--- src/owed.rt:64:5
 loop-again : tie.Need-loop-again Inv-loop μ-loop
 loop-again c = 
     let at-loop = c .before .before .before in
@@ -76,7 +64,6 @@ loop-again c =
     let v : c .claim .result ≡ claimOf (archived a) (getD (a .places) i zeroEntry) = c .claim .ensures in
     (omega arith, omega arith, omega arith)
 
--- src/owed.rt:57:1
 returns : tie.Need-returns Inv-loop μ-loop
 returns c = 
     let at-loop = c .before in

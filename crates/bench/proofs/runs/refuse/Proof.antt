@@ -35,7 +35,9 @@ same-length : tie.Need-same-length Inv-loop μ-loop
 same-length c = search needs
 
 returns : tie.Need-returns Inv-loop μ-loop
-returns c = twos-end _ _ _ _ (omega arith) (omega arith) (c .before .loop .inv .1)
+returns c = 
+    let at-loop = c .before in
+    twos-end (at-loop .before .args .answers .now) (at-loop .loop .answers) (at-loop .before .args .n) (at-loop .loop .i) (omega arith) (omega arith) (at-loop .loop .inv .1)
 
 pub refuse-spec : {M : Type 1} → statement M
 refuse-spec =

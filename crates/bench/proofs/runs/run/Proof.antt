@@ -1,3 +1,4 @@
+use mathlib.Core.Bool.{false}
 use Rattle.bench.proofs.Filling.{taken-fits, refused-run, refused-answers}
 use Rattle.bench.specs.Runs.{pieces, taken}
 use Rattle.rules.specs.Laid.{heldOk, heldRun, heldAnswers}
@@ -9,37 +10,25 @@ use mathlib.Core.Path.{_≡_, refl, _∙_, sym, ap}
 use borrow.Author.Needs.{needs}
 use Rattle.bench.proofs.runs.run.Statement.{statement}
 use Rattle.bench.proofs.runs.run.Tie as tie
-use Rattle.bench.proofs.runs.run.Reads as reads
-use Rattle.bench.proofs.runs.run.Lts as lts
-use Rattle.bench.proofs.runs.each.Reads as each-reads
-use Rattle.bench.proofs.runs.refuse.Reads as refuse-reads
-use Rattle.bench.proofs.runs.smaller.Reads as smaller-reads
-use Rattle.bench.proofs.stub.held_ok.Reads as held-ok-reads
 
--- src/runs.rt:57:9
 smaller-requires : tie.Need-smaller-requires
 smaller-requires c κs = search needs
 
--- src/runs.rt:58:8
 held-ok-requires : tie.Need-held-ok-requires
 held-ok-requires c κs = search needs
 
--- src/runs.rt:59:13
 each-requires : tie.Need-each-requires
 each-requires c κs = 
     let counted = c .before .before .before in
     let fits = taken-fits _ _ _ (counted .smaller .ensures) in
     (sym (c .before .before .held-ok .ensures) ∙ c .before .if1 .taken, fits .0, fits .1)
 
--- src/runs.rt:65:9
 refuse-requires : tie.Need-refuse-requires
 refuse-requires c κs = taken-fits _ _ _ (c .before .before .before .smaller .ensures) .1
 
--- src/runs.rt:52:1
 same-length : tie.Need-same-length
 same-length c = search needs
 
--- src/runs.rt:52:1
 returns : tie.Need-returns
 unfolding taken
 returns c = 
@@ -56,11 +45,9 @@ returns c =
       each .1 ∙ ap (λ (n : ℕ). heldAnswers held (pieces n input) ++ drop n answers) s,
     )
 
--- src/runs.rt:52:1
 same-length-2 : tie.Need-same-length-2
 same-length-2 c = search needs
 
--- src/runs.rt:52:1
 returns-2 : tie.Need-returns-2
 unfolding taken
 returns-2 c = 
