@@ -39,7 +39,7 @@ loop-again c =
     let at-loop = c .before .before .before in
     let bs = at-loop .before .before .args .balances .now in
     let i = at-loop .loop .i in
-    (omega arith, rest-more within bs i 0 (at-loop .loop .ok) (omega arith) (at-loop .loop .inv .1) (ap (λ (b : Bool). at-loop .loop .ok && b) (c .is-within .ensures)))
+    (omega arith, rest-more within bs i 0 (at-loop .loop .ok) (omega arith) (at-loop .loop .inv .1) (c .is-within .ensures))
 
 returns : tie.Need-returns Inv-loop μ-loop
 returns c = 

@@ -60,7 +60,7 @@ returns-2 c =
     let s : counted .smaller .result ≡ taken input answers = counted .smaller .ensures in
     (
       s,
-      sym (refused-run held _ bad),
+      sym (refused-run held (pieces (taken input answers) input) bad),
       c .before .before .refuse .ensures
       ∙ (ap (λ (n : ℕ). replicate n 2 ++ drop n answers) s
       ∙ ap (λ t. t ++ drop (taken input answers) answers) (sym (refused-answers held (taken input answers) input bad))),
