@@ -1,4 +1,4 @@
-use borrow.Author.Tests.{ne-eqb, eq-eqb, le-leb, lt-leb}
+use borrow.Author.Tests.{le-leb, lt-leb}
 use borrow.Author.Needs.{needs}
 use Rattle.bench.proofs.acts.place_in.Statement.{statement}
 use Rattle.bench.proofs.acts.place_in.Tie as tie

@@ -7,7 +7,7 @@ use lib.Dec.{leb}
 use lib.ListN.{length}
 use mathlib.Core.List.{[], _∷_}
 use mathlib.Core.Bool.{_&&_, not}
-use mathlib.Core.Path.{_≡_, refl, _∙_, sym, ap}
+use mathlib.Core.Path.{refl}
 use borrow.Author.Needs.{needs}
 use Rattle.bench.proofs.open.opening_number.Statement.{statement}
 use Rattle.bench.proofs.open.opening_number.Tie as tie
@@ -23,7 +23,7 @@ tested-requires-2 c κs = search needs
 
 returns : tie.Need-returns
 unfolding openingNumber
-returns c = 
+returns c =
     let bs = c .before .before .before .before .args .balances .now in
     rw (c .tested2 .ensures, c .before .all-within .ensures, c .before .before .tested .ensures)
     (walks ((not (leb 1 (length bs) && leb (length bs) 32) ⇒ 20) ∷ (not (all within bs) ⇒ 21) ∷ []) refl)

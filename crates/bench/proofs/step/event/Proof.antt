@@ -1,6 +1,6 @@
 use Rattle.bench.proofs.ByRecord.{step-by-record}
 use Rattle.rules.specs.Laid.{heldStep}
-use mathlib.Core.Path.{_≡_, refl, _∙_, sym, ap}
+use mathlib.Core.Path.{_∙_, sym}
 use borrow.Author.Needs.{needs}
 use Rattle.bench.proofs.step.event.Statement.{statement}
 use Rattle.bench.proofs.step.event.Tie as tie
