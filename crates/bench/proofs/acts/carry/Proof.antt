@@ -1,3 +1,5 @@
+-- `bench::acts::carry` meets its contract: the card's number decides, as in the definition.
+-- Assumes nothing.
 use Rattle.bench.specs.Acts.{carriedOn}
 use borrow.Author.Tests.{ne-eqb, eq-eqb}
 use borrow.Author.Needs.{needs}

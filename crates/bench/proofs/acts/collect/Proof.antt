@@ -1,3 +1,5 @@
+-- `bench::acts::collect` meets its contract: the card is told where no test before found a number.
+-- Assumes nothing.
 use Rattle.bench.specs.Acts.{collectedOn}
 use borrow.Author.Tests.{ne-eqb, eq-eqb}
 use borrow.Author.Needs.{needs}

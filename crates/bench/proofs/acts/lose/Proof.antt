@@ -1,3 +1,5 @@
+-- `bench::acts::lose` meets its contract: the ether's own method takes the message out.
+-- Assumes nothing.
 use Rattle.bench.specs.Acts.{lostOn}
 use borrow.Author.Tests.{ne-eqb, eq-eqb}
 use borrow.Author.Needs.{needs}

@@ -1,3 +1,5 @@
+-- `bench::acts::message_at` meets its contract: past the last place a list gives its default, the all-zero message.
+-- Assumes nothing.
 use Rattle.purse.specs.Details.{zeroMessage}
 use lib.ListN.{length, length-map, List·getD-eq-default}
 use mathlib.Core.Path.{_≡_, _∙_, sym}

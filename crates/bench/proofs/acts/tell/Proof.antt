@@ -1,3 +1,5 @@
+-- `bench::acts::tell` meets its contract: the card's step is what the card promises.
+-- Assumes nothing.
 use Rattle.bench.specs.Acts.{toldOn}
 use borrow.Author.Tests.{ne-eqb, eq-eqb}
 use borrow.Author.Needs.{needs}

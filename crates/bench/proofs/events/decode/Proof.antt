@@ -1,3 +1,5 @@
+-- `bench::events::decode` meets its contract: length and spare byte first, then the fields.
+-- Assumes nothing.
 use borrow.Author.Tests.{eq-eqb, ne-eqb}
 use Rattle.rules.specs.Events.{decoded}
 use borrow.Author.Needs.{needs}

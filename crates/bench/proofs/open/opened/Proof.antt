@@ -1,3 +1,5 @@
+-- `bench::open::opened` meets its contract: the loop's invariant: the table is the purses of the balances passed, zero behind them.
+-- Assumes nothing.
 use Rattle.bench.proofs.OpenedTable.{table-more, opened-laid}
 use Rattle.rules.specs.Run.{openedAt}
 use Rattle.purse.specs.Purse.{zeroPurse}

@@ -1,3 +1,5 @@
+-- `bench::open::opening` meets its contract: a table by value has 32 records, so that 2 never applies.
+-- Assumes nothing.
 use Rattle.rules.proofs.Opened.{opens}
 use Rattle.rules.specs.Laid.{heldOpening}
 use Rattle.rules.specs.Run.{openingNumber}

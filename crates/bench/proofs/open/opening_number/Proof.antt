@@ -1,3 +1,5 @@
+-- `bench::open::opening_number` meets its contract: tests taken one by one find the first that applies.
+-- Assumes nothing.
 use Rattle.bench.specs.Opens.{within}
 use Rattle.rules.specs.Run.{openingNumber}
 use Rattle.purse.proofs.Tests.{walks}

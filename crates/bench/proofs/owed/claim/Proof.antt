@@ -1,3 +1,5 @@
+-- `bench::owed::claim` meets its contract: its payer logged it, and its payee too.
+-- Assumes nothing.
 use Rattle.bench.specs.Claims.{claimOf}
 use mathlib.Core.Path.{_∙_, sym}
 use borrow.Author.Tests.{eq-eqb, ne-eqb}

@@ -1,3 +1,5 @@
+-- `bench::owed::claims` meets its contract: one pass over the archive is the sum over the purses (`claims-once`).
+-- Assumes nothing.
 use Rattle.bench.proofs.Summed.{held-few, held-bounded, claims-once}
 use Rattle.rules.specs.Laid.{heldOk, heldClaims}
 use mathlib.Core.Bool.{true}

@@ -1,3 +1,6 @@
+-- `bench::owed::logged` meets its contract: the loop's invariant: the answer for the whole archive is the answer for the entries not
+-- passed yet.
+-- Assumes nothing.
 use Rattle.bench.proofs.Summed.{logged-here, logged-later, logged-end}
 use Rattle.bench.specs.Claims.{archived}
 use Rattle.rules.specs.Bench.{archivedBy}

@@ -1,3 +1,6 @@
+-- `bench::owed::sum` meets its contract: the loop's invariant: the sum so far and what the entries not passed yet add is the whole, and
+-- the sum is at most 5,000,000 an entry.
+-- Assumes nothing.
 use Rattle.bench.proofs.Summed.{total-on, total-end, bounded-at, claim-most}
 use Rattle.bench.specs.Claims.{archived, claimOf}
 use Rattle.desk.specs.Desk.{zeroEntry}

@@ -1,3 +1,5 @@
+-- `bench::runs::each` meets its contract: the loop's invariant is `Going`: the run so far, and the pieces that are left.
+-- Assumes nothing.
 use Rattle.bench.proofs.Filling.{Going, going-start, going-on, going-end}
 use Rattle.bench.specs.Acts.{byRecord}
 use Rattle.rules.specs.Events.{decoded}

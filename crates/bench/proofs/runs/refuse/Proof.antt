@@ -1,3 +1,5 @@
+-- `bench::runs::refuse` meets its contract: the loop's invariant is `Filled`: the places passed hold 2, the others what they held.
+-- Assumes nothing.
 use Rattle.bench.proofs.Filling.{twos-end}
 use Rattle.bench.proofs.Filling.{Filled, fill-none, twos-on}
 use lib.ListN.{replicate}

@@ -1,3 +1,6 @@
+-- `bench::runs::run` meets its contract: the events taken are whole and have a place each; where the rules are broken every one is
+-- answered 2.
+-- Assumes nothing.
 use mathlib.Core.Bool.{false}
 use Rattle.bench.proofs.Filling.{taken-fits, refused-run, refused-answers}
 use Rattle.bench.specs.Runs.{pieces, taken}

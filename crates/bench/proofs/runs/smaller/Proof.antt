@@ -1,3 +1,5 @@
+-- `bench::runs::smaller` meets its contract: by the test.
+-- Assumes nothing.
 use borrow.Author.Tests.{le-leb, lt-leb}
 use Rattle.bench.proofs.runs.smaller.Statement.{statement}
 use Rattle.bench.proofs.runs.smaller.Tie as tie

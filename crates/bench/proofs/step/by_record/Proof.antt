@@ -1,3 +1,5 @@
+-- `bench::step::by_record` meets its contract: the place is below 32, so that the record read is the table's, and it is put back there.
+-- Assumes nothing.
 use Rattle.purse.specs.declared.Purse.{Purse}
 use Rattle.bench.proofs.ByRecord.{place-below}
 use Rattle.bench.specs.Acts.{actOn, putBack, byRecord}

@@ -1,3 +1,5 @@
+-- `bench::step::event` meets its contract: where the rules hold the step is the one record's (`step-by-record`), else 2.
+-- Assumes nothing.
 use Rattle.bench.proofs.ByRecord.{step-by-record}
 use Rattle.rules.specs.Laid.{heldStep}
 use mathlib.Core.Path.{_∙_, sym}
