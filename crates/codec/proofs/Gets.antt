@@ -33,7 +33,9 @@ module _ {A : Type 0} (g : List ℕ → ℕ → A) (w : ℕ) where
   module _ (l : List ℕ) (at k : ℕ) (z : A) where
     pub filled-none : {y : A} → y ≡ z → Filled g w l at k z (replicate k y) 0 at
     unfolding many
-    filled-none e = record { next = rw (mul-zero w) (sym (add-zero at)); filled = rw e }
+    filled-none e =
+        let n : k - 0 ≡ k = omega arith in
+        record { next = rw (mul-zero w) (sym (add-zero at)); filled = rw (e, n) }
 
     pub filled-more : (i : ℕ) {xs : List A} {from : ℕ} {v : A} → i < k → Filled g w l at k z xs i from → v ≡ g l from
         → Filled g w l at k z (set xs i v) (i + 1) (from + w)

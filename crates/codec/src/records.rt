@@ -1,4 +1,7 @@
 // The records of an image: details, a log, a purse, a message, an archive entry, each at a place of the bytes.
+use crate::numbers::get_number;
+use crate::numbers::put_byte;
+use crate::numbers::put_number;
 use desk::Entry;
 use purse::Amount;
 use purse::Details;
@@ -6,7 +9,6 @@ use purse::Message;
 use purse::Name;
 use purse::Purse;
 use purse::Seq;
-use crate::numbers::{get_number, put_byte, put_number};
 ghost use mathlib.Core.Path.{_≡_};
 ghost use Prim.Native.Nat.{_+_, _≤_};
 ghost use lib.ListN.{length};

@@ -53,8 +53,7 @@ loop-less c = search needs
 loop-again : tie.Need-loop-again Inv-loop μ-loop
 loop-again c =
     let at-loop = c .before .before in
-    let args = at-loop .before .before .before .args in
-    (
+    let args = at-loop .before .before .before .args in (
       omega arith,
       filled-more detailsAt 14 (args .s .now) (args .at) 8 zeroDetails (at-loop .loop .i) (omega arith) (at-loop .loop .inv .1) (c .get-details .ensures),
     )

@@ -50,11 +50,10 @@ loop-again c =
     let at-loop = called .before .before .before .before in
     let args = at-loop .before .before .args in
     let log = args .t3 in
-    let long : length log ≡ 8 = search needs in
-    (
+    let long : length log ≡ 8 = search needs in (
       omega arith,
       wrote-more detailsBytes 14 (args .out .now) (args .at) log (at-loop .loop .i) zeroDetails (omega arith) (at-loop .loop .inv .1)
-      (called .put-details .ensures .2) (called .put-details .ensures .1) (called .put-details .ensures .0),
+          (called .put-details .ensures .2) (called .put-details .ensures .1) (called .put-details .ensures .0),
     )
 
 -- src/records.rt:46:1

@@ -28,8 +28,7 @@ returns c =
     let c2 = c .before .before in
     let c1 = c2 .before .before .before .before in
     let args = c1 .before .before .before .before .args in
-    let wide = c2 .put-details .ensures .2 in
-    (
+    let wide = c2 .put-details .ensures .2 in (
       omega arith,
       then-put (args .out .now) (args .at) _ _ (c1 .put-byte .ensures .1) (omega arith) (c2 .put-details .ensures .1),
       omega arith,

@@ -59,8 +59,7 @@ returns c =
     let e4 = then-put l at _ _ e3 (omega arith) (c4 .put-byte2 .ensures .1) in
     let e5 = then-put l at _ _ e4 (omega arith) (c5 .put-details .ensures .1) in
     let details = c5 .put-details .ensures .2 in
-    let log = c6 .put-log .ensures .2 in
-    (
+    let log = c6 .put-log .ensures .2 in (
       omega arith,
       then-put l at _ _ e5 (simp length-append (omega arith)) (c6 .put-log .ensures .1),
       simp length-append (omega arith),
