@@ -11,6 +11,7 @@ use mathlib.Core.List.{List, [], _∷_, _++_}
 use lib.ListN.{length, take, drop, getD, length-append}
 use lib.Seq.{getD-take, getD-drop, take-take, take-append-seam, drop-append-seam, drop-drop, drop-cons, take-add}
 use Rattle.codec.specs.Bytes.{byte, byteAt, big, numberAt, room, flat, many}
+use Rattle.codec.specs.Fits.{All, Below}
 
 -- n bytes of a list from a place on
 unfoldable pub seg : List ℕ → ℕ → ℕ → List ℕ
@@ -19,11 +20,6 @@ seg l at n = take n (drop at l)
 -- every element is a byte
 abbrev pub Bytes : List ℕ → Type 0
 Bytes l = (i : ℕ) → getD l i 0 < 256
-
--- each element of a list has a property
-abbrev pub All : {A : Type 0} → (A → Type 0) → List A → Type 0
-All P [] = Unit
-All P (x ∷ xs) = P x × All P xs
 
 -- the bytes xs stand in l at i
 pub record At (l : List ℕ) (i : ℕ) (xs : List ℕ) : Type 0 where
@@ -61,27 +57,28 @@ at-byte {l} {i} b a =
     sym (ap (λ (j : ℕ). getD l j 0) (add-zero i)) ∙ sym (getD-drop i l 0 0) ∙ sym (getD-take 1 (drop i l) 0 0 (omega arith))
     ∙ ap (λ (t : List ℕ). getD t 0 0) (a .is)
 
--- the encoder f and the decoder g agree on values that fit (P), each w bytes long
-pub record Coded {A : Type 0} (f : A → List ℕ) (g : List ℕ → ℕ → A) (w : ℕ) (P : A → Type 0) : Type 0 where
-  pub wide : (x : A) → P x → length (f x) ≡ w
-  pub back : (l : List ℕ) (i : ℕ) (x : A) → P x → At l i (f x) → g l i ≡ x
+-- the encoder f and the decoder g belong together: f writes w bytes of each value of the right shape (S), and g reads such a value back
+-- where its numbers fit their bytes (P); and f writes what g read
+pub record Coded {A : Type 0} (f : A → List ℕ) (g : List ℕ → ℕ → A) (w : ℕ) (S P : A → Type 0) : Type 0 where
+  pub wide : (x : A) → S x → length (f x) ≡ w
+  pub back : (l : List ℕ) (i : ℕ) (x : A) → S x → P x → At l i (f x) → g l i ≡ x
   pub again : (l : List ℕ) (i : ℕ) → i + w ≤ length l → Bytes l → f (g l i) ≡ seg l i w
 
--- a byte
-abbrev pub Any : ℕ → Type 0
-Any n = Unit
+-- no condition
+abbrev pub Any : {A : Type 0} → A → Type 0
+Any x = Unit
 
-pub byte-coded : Coded byte byteAt 1 Any
+pub any-all : {A : Type 0} (xs : List A) → All Any xs
+any-all [] = tt
+any-all (x ∷ xs) = (tt, any-all xs)
+
+pub byte-coded : Coded byte byteAt 1 Any Any
 byte-coded =
     record {
-      wide = λ x p. refl;
-      back = λ l i x p h. at-byte x h;
+      wide = λ x s. refl;
+      back = λ l i x s p h. at-byte x h;
       again = λ l i h k. seg-one l i (omega arith);
     }
-
--- a number that w bytes can spell
-abbrev pub Below : ℕ → ℕ → Type 0
-Below w n = n < room w
 
 length-big : (w n : ℕ) → length (big w n) ≡ w
 unfolding big
@@ -108,9 +105,9 @@ number-again (suc w) l i h k =
     let r : (numberAt w l i * 256 + getD l (i + w) 0) % 256 ≡ getD l (i + w) 0 = omega arith in
     rw (q, r, number-again w l i (omega arith) k, seg-one l (i + w) (omega arith), ← add-one w) (seg-join l i w 1)
 
-pub number-coded : (w : ℕ) → Coded (big w) (numberAt w) w (Below w)
+pub number-coded : (w : ℕ) → Coded (big w) (numberAt w) w Any (Below w)
 number-coded w =
-    record { wide = λ x p. length-big w x; back = λ l i x p h. number-back w l i x p h; again = number-again w }
+    record { wide = λ x s. length-big w x; back = λ l i x s p h. number-back w l i x p h; again = number-again w }
 
 -- one value after another
 module _ {A B : Type 0} where
@@ -123,46 +120,46 @@ module _ {A B : Type 0} where
   abbrev pub Both : (A → Type 0) → (B → Type 0) → A × B → Type 0
   Both P Q x = P (x .0) × Q (x .1)
 
-  pub pair-coded : {f : A → List ℕ} {g : List ℕ → ℕ → A} {v : ℕ} {P : A → Type 0} {h : B → List ℕ} {k : List ℕ → ℕ → B} {w : ℕ} {Q : B → Type 0}
-      → Coded f g v P → Coded h k w Q → Coded (pairBytes f h) (pairAt g v k) (v + w) (Both P Q)
-  pair-coded {f} {g} {v} {P} {h} {k} {w} {Q} c d =
+  pub pair-coded : {f : A → List ℕ} {g : List ℕ → ℕ → A} {v : ℕ} {S P : A → Type 0} {h : B → List ℕ} {k : List ℕ → ℕ → B} {w : ℕ} {T Q : B → Type 0}
+      → Coded f g v S P → Coded h k w T Q → Coded (pairBytes f h) (pairAt g v k) (v + w) (Both S T) (Both P Q)
+  pair-coded {f} {g} {v} {S} {P} {h} {k} {w} {T} {Q} c d =
       record {
-        wide = λ x p. length-append (f (x .0)) (h (x .1)) ∙ rw (c .wide (x .0) (p .0), d .wide (x .1) (p .1));
-        back = λ l i x p a.
-            ap₂ (λ (s : A) (t : B). (s, t)) (c .back l i (x .0) (p .0) (at-left (f (x .0)) (h (x .1)) a))
-            (d .back l (i + v) (x .1) (p .1) (rw (c .wide (x .0) (p .0)) at (at-right (f (x .0)) (h (x .1)) a)));
+        wide = λ x s. length-append (f (x .0)) (h (x .1)) ∙ rw (c .wide (x .0) (s .0), d .wide (x .1) (s .1));
+        back = λ l i x s p a.
+            ap₂ (λ (y : A) (z : B). (y, z)) (c .back l i (x .0) (s .0) (p .0) (at-left (f (x .0)) (h (x .1)) a))
+            (d .back l (i + v) (x .1) (s .1) (p .1) (rw (c .wide (x .0) (s .0)) at (at-right (f (x .0)) (h (x .1)) a)));
         again = λ l i m b. rw (c .again l i (omega arith) b, d .again l (i + v) (omega arith) b) (seg-join l i v w);
       }
 
 -- a record that holds such values
-pub held-coded : {A B : Type 0} {f : A → List ℕ} {g : List ℕ → ℕ → A} {w : ℕ} {P : A → Type 0} (Q : B → Type 0) (to : B → A) (from : A → B)
-    → ((y : B) → from (to y) ≡ y) → ((x : A) → to (from x) ≡ x) → ((y : B) → Q y → P (to y))
-    → Coded f g w P → Coded (λ (y : B). f (to y)) (λ (l : List ℕ) (i : ℕ). from (g l i)) w Q
-held-coded {A} {B} {f} {g} {w} {P} Q to from whole parts fits c =
+pub held-coded : {A B : Type 0} {f : A → List ℕ} {g : List ℕ → ℕ → A} {w : ℕ} {S P : A → Type 0} (T Q : B → Type 0) (to : B → A) (from : A → B)
+    → ((y : B) → from (to y) ≡ y) → ((x : A) → to (from x) ≡ x) → ((y : B) → T y → S (to y)) → ((y : B) → Q y → P (to y))
+    → Coded f g w S P → Coded (λ (y : B). f (to y)) (λ (l : List ℕ) (i : ℕ). from (g l i)) w T Q
+held-coded {A} {B} {f} {g} {w} {S} {P} T Q to from whole parts shape fits c =
     record {
-      wide = λ y q. c .wide (to y) (fits y q);
-      back = λ l i y q a. ap from (c .back l i (to y) (fits y q) a) ∙ whole y;
+      wide = λ y t. c .wide (to y) (shape y t);
+      back = λ l i y t q a. ap from (c .back l i (to y) (shape y t) (fits y q) a) ∙ whole y;
       again = λ l i m b. ap f (parts (g l i)) ∙ c .again l i m b;
     }
 
--- n values of one width
-abbrev pub Every : {A : Type 0} → (A → Type 0) → ℕ → List A → Type 0
-Every P n xs = (length xs ≡ n) × All P xs
+-- n values of one shape
+abbrev pub Each : {A : Type 0} → (A → Type 0) → ℕ → List A → Type 0
+Each S n xs = (length xs ≡ n) × All S xs
 
-module _ {A : Type 0} {f : A → List ℕ} {g : List ℕ → ℕ → A} {w : ℕ} {P : A → Type 0} (c : Coded f g w P) where
-  length-flat : (xs : List A) → All P xs → length (flat f xs) ≡ w * length xs
+module _ {A : Type 0} {f : A → List ℕ} {g : List ℕ → ℕ → A} {w : ℕ} {S P : A → Type 0} (c : Coded f g w S P) where
+  length-flat : (xs : List A) → All S xs → length (flat f xs) ≡ w * length xs
   unfolding flat
-  length-flat [] ps = sym (mul-zero w)
-  length-flat (x ∷ xs) ps =
-      length-append (f x) (flat f xs) ∙ rw (c .wide x (ps .0), length-flat xs (ps .1), mul-suc w (length xs)) (omega arith)
+  length-flat [] ss = sym (mul-zero w)
+  length-flat (x ∷ xs) ss =
+      length-append (f x) (flat f xs) ∙ rw (c .wide x (ss .0), length-flat xs (ss .1), mul-suc w (length xs)) (omega arith)
 
-  many-back : (l : List ℕ) (i : ℕ) (xs : List A) → All P xs → At l i (flat f xs) → many g w (length xs) l i ≡ xs
+  many-back : (l : List ℕ) (i : ℕ) (xs : List A) → All S xs → All P xs → At l i (flat f xs) → many g w (length xs) l i ≡ xs
   unfolding flat many
-  many-back l i [] ps h = refl
-  many-back l i (x ∷ xs) ps h =
-      let e0 : g l i ≡ x = c .back l i x (ps .0) (at-left (f x) (flat f xs) h) in
-      let k : At l (i + w) (flat f xs) = rw (c .wide x (ps .0)) at (at-right (f x) (flat f xs) h) in
-      let e1 : many g w (length xs) l (i + w) ≡ xs = many-back l (i + w) xs (ps .1) k in
+  many-back l i [] ss ps h = refl
+  many-back l i (x ∷ xs) ss ps h =
+      let e0 : g l i ≡ x = c .back l i x (ss .0) (ps .0) (at-left (f x) (flat f xs) h) in
+      let k : At l (i + w) (flat f xs) = rw (c .wide x (ss .0)) at (at-right (f x) (flat f xs) h) in
+      let e1 : many g w (length xs) l (i + w) ≡ xs = many-back l (i + w) xs (ss .1) (ps .1) k in
       cc
 
   many-again : (n : ℕ) (l : List ℕ) (i : ℕ) → i + w * n ≤ length l → Bytes l → flat f (many g w n l i) ≡ seg l i (w * n)
@@ -173,10 +170,10 @@ module _ {A : Type 0} {f : A → List ℕ} {g : List ℕ → ℕ → A} {w : ℕ
       let h′ : i + w + w * n ≤ length l = omega arith in
       rw (c .again l i (omega arith) k, many-again n l (i + w) h′ k, e) (seg-join l i w (w * n))
 
-  pub many-coded : (n : ℕ) → Coded (flat f) (many g w n) (w * n) (Every P n)
+  pub many-coded : (n : ℕ) → Coded (flat f) (many g w n) (w * n) (Each S n) (All P)
   many-coded n =
       record {
-        wide = λ xs p. length-flat xs (p .1) ∙ rw (p .0);
-        back = λ l i xs p h. rw (p .0) at (many-back l i xs (p .1) h);
+        wide = λ xs s. length-flat xs (s .1) ∙ rw (s .0);
+        back = λ l i xs s p h. rw (s .0) at (many-back l i xs (s .1) p h);
         again = many-again n;
       }
