@@ -1,14 +1,17 @@
 -- A whole image as one record that holds a head and three lists: what is written is read back, and what is read is written back.
 -- Assumes nothing.
-use Prim.Native.Nat.{ℕ, _+_, _*_, _≤_}
+use Prim.Native.Nat.{ℕ, _+_, _*_, _-_, _≤_}
 use mathlib.Core.Path.{_≡_, refl, sym, ap, _∙_}
 use mathlib.Core.List.{List, _++_}
-use lib.ListN.{length, take, drop}
+use lib.ListN.{length, replicate}
 use lib.Seq.{take-all, take-length}
 use native.Mathlib.Omega.{arith}
 use Rattle.purse.specs.declared.Purse.{Purse}
 use Rattle.purse.specs.declared.Message.{Message}
+use Rattle.purse.specs.Details.{zeroMessage}
+use Rattle.purse.specs.Purse.{zeroPurse}
 use Rattle.desk.specs.declared.Entry.{Entry}
+use Rattle.desk.specs.Desk.{zeroEntry}
 use Rattle.codec.specs.Bytes.{byte, byteAt, big, numberAt, flat, many}
 use Rattle.codec.specs.Fits.{All, Below}
 use Rattle.codec.specs.Records.{purseBytes, purseAt, messageBytes, messageAt, entryBytes, entryAt}
@@ -17,7 +20,7 @@ use Rattle.codec.proofs.Gets.{length-many}
 use Rattle.codec.proofs.Trips.{EightPlaces, purse-coded, message-coded, entry-coded}
 use Rattle.rules.specs.Bench.{Bench}
 use Rattle.image.specs.Head.{version, headBytes, versionIn, pursesIn, messagesIn, entriesIn, imageLength}
-use Rattle.image.specs.Image.{benchBytes, listsIn, Fits}
+use Rattle.image.specs.Image.{benchBytes, listsIn, benchIn, Fits}
 use Rattle.image.proofs.Heads.{HeadOk}
 
 -- a head's values
@@ -213,3 +216,33 @@ lists-again l k h =
     ∙ ap (λ (x : Head). wholeBytes (record { head = x; lists = b })) same
     ∙ c .again l 0 (omega (arith, h .long)) k
     ∙ take-all (10 + (136 * pursesIn l + (15 * messagesIn l + 15 * entriesIn l))) l (omega (arith, h .long))
+
+-- the places of a table and a desk that an image gives: each list, and zeros behind it
+pub in-places : (l : List ℕ) → benchIn l
+    ≡ record {
+      table = many purseAt 136 (pursesIn l) l 10 ++ replicate (32 - pursesIn l) zeroPurse;
+      desk =
+          record {
+            purses = pursesIn l;
+            ether =
+                record {
+                  places = many messageAt 15 (messagesIn l) l (10 + 136 * pursesIn l) ++ replicate (256 - messagesIn l) zeroMessage;
+                  count = messagesIn l;
+                };
+            archive =
+                record {
+                  places =
+                      many entryAt 15 (entriesIn l) l (10 + 136 * pursesIn l + 15 * messagesIn l)
+                      ++ replicate (256 - entriesIn l) zeroEntry;
+                  count = entriesIn l;
+                };
+          };
+    }
+unfolding benchIn listsIn
+in-places l =
+    rw
+    (
+      length-many purseAt 136 (pursesIn l) l 10,
+      length-many messageAt 15 (messagesIn l) l (10 + 136 * pursesIn l),
+      length-many entryAt 15 (entriesIn l) l (10 + 136 * pursesIn l + 15 * messagesIn l),
+    )
