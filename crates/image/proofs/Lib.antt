@@ -4,3 +4,4 @@ pub mod Heads
 pub mod Whole
 pub mod Stands
 pub mod Trips
+pub mod Calls

@@ -3,9 +3,73 @@ pub mod head; // head.rt: mark, version and counts, and the tests of them
 pub mod reading; // reading.rt: the table and the desk that bytes give
 pub mod writing; // writing.rt: the table and the desk as bytes
 
+use crate::head::{head_number, image_length};
+use crate::reading::get_bench;
+use crate::writing::put_bench;
+use desk::Answered;
+use desk::Held;
+use purse::tested;
+ghost use mathlib.Core.Path.{_≡_};
+ghost use Rattle.rules.specs.Laid.{heldOk};
+ghost use Rattle.image.specs.Calls.{heldRead, heldWrite, heldBuffer};
+
 // What writing answers, and how long the image is.
 #[repr(C)]
 pub struct Written {
     pub answer: u8,
     pub length: usize,
+}
+
+fn held_ok(held: Held) -> bool
+    ensures { λ r. ⌜ r ≡ heldOk held ⌝ }
+{
+    false
+}
+
+// The image of a bench at the start of a buffer; output past the image is untouched, and a refusal writes nothing.
+pub fn write(held: Held, out: &mut [u8]) -> Written
+    ensures { λ r. ⌜ (r ≡ heldWrite held (now (out .entry))) × (now (out .exit) ≡ heldBuffer held (now (out .entry))) ⌝ }
+{
+    let length = image_length(held.desk.purses, held.desk.ether.count, held.desk.archive.count);
+    let room = out.len();
+    let n = tested(0, !held_ok(held), 2);
+    let n = tested(n, room < length, 19);
+    if n == 0 {
+        let written = put_bench(out, held);
+        Written {
+            answer: 0,
+            length: written,
+        }
+    } else {
+        Written {
+            answer: n,
+            length: 0,
+        }
+    }
+}
+
+// The bench of an image, whatever was held before; a refusal leaves that.
+pub fn read(held: Held, bytes: &[u8]) -> Answered
+    ensures { λ r. ⌜ r ≡ heldRead held (now (bytes .entry)) ⌝ }
+{
+    let n = head_number(bytes);
+    if n == 0 {
+        let found = get_bench(bytes);
+        if held_ok(found) {
+            Answered {
+                answer: 0,
+                held: found,
+            }
+        } else {
+            Answered {
+                answer: 2,
+                held: held,
+            }
+        }
+    } else {
+        Answered {
+            answer: n,
+            held: held,
+        }
+    }
 }
