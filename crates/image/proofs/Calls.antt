@@ -1,11 +1,11 @@
 -- What the two calls answer and leave, from the numbers that their tests found.
 -- Assumes nothing.
-use Prim.Native.Nat.{ℕ, _+_, _≤_, _<_}
-use mathlib.Core.Path.{_≡_, refl, sym, ap, _∙_}
-use mathlib.Core.Bool.{Bool, true, false, not, cond}
+use Prim.Native.Nat.{ℕ, _+_, _≤_}
+use mathlib.Core.Path.{_≡_, refl, _∙_}
+use mathlib.Core.Bool.{true, false, not}
 use mathlib.Core.Logic.{⊎-elim}
-use mathlib.Core.List.{List, _++_}
-use lib.ListN.{length, drop}
+use mathlib.Core.List.{List}
+use lib.ListN.{length}
 use lib.Dec.{ltb, eqb}
 use native.Mathlib.Nat.{zero-add}
 use native.Mathlib.Omega.{arith}
@@ -15,15 +15,15 @@ use Rattle.purse.proofs.Bools.{which}
 use Rattle.purse.proofs.Tests.{passed}
 use Rattle.desk.specs.declared.Held.{Held}
 use Rattle.desk.specs.declared.Answered.{Answered}
-use Rattle.codec.specs.Bytes.{put}
-use Rattle.codec.proofs.Puts.{put-eq}
+use Rattle.layout.specs.Bytes.{put}
+use Rattle.image.proofs.Puts.{put-eq}
 use Rattle.rules.specs.Laid.{heldOk}
-use Rattle.image.specs.declared.Written.{Written}
-use Rattle.image.specs.Head.{headTests, imageLength}
-use Rattle.image.specs.Image.{imageOf, benchIn}
-use Rattle.image.specs.Calls.{readNumber, heldRead, writeNumber, heldWrite, heldBuffer}
-use Rattle.image.proofs.Stands.{held-length}
-use Rattle.image.proofs.Trips.{read-number}
+use Rattle.layout.specs.declared.Written.{Written}
+use Rattle.layout.specs.Head.{headTests, imageLength}
+use Rattle.layout.specs.Image.{imageOf, benchIn}
+use Rattle.layout.specs.Calls.{readNumber, heldRead, writeNumber, heldWrite, heldBuffer}
+use Rattle.layout.proofs.Stands.{held-length}
+use Rattle.layout.proofs.Trips.{read-number}
 
 module _ (h : Held) (out : List ℕ) where
   -- the tests of writing, one by one: the second looks at the counts alone, which matters only where the first has passed

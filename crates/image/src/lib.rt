@@ -1,24 +1,21 @@
-// Stored images: a whole bench as bytes and back, by value. What an image is, and which refusal comes first, stands in specs/.
-pub mod head; // head.rt: mark, version and counts, and the tests of them
-pub mod reading; // reading.rt: the table and the desk that bytes give
-pub mod writing; // writing.rt: the table and the desk as bytes
+// Stored images: a whole bench as bytes and back, by value. What an image is, and which refusal comes first, stands in the crate layout.
+mod head; // head.rt: mark, version and counts, and the tests of them
+mod numbers; // numbers.rt: bytes, counts of two bytes and numbers of four
+mod reading; // reading.rt: the table and the desk that bytes give
+mod records; // records.rt: details, a log, a purse, a message, an archive entry
+mod writing; // writing.rt: the table and the desk as bytes
 
-use crate::head::{head_number, image_length};
+use crate::head::head_number;
+use crate::head::image_length;
 use crate::reading::get_bench;
 use crate::writing::put_bench;
 use desk::Answered;
 use desk::Held;
+use layout::Written;
 use purse::tested;
 ghost use mathlib.Core.Path.{_≡_};
 ghost use Rattle.rules.specs.Laid.{heldOk};
-ghost use Rattle.image.specs.Calls.{heldRead, heldWrite, heldBuffer};
-
-// What writing answers, and how long the image is.
-#[repr(C)]
-pub struct Written {
-    pub answer: u8,
-    pub length: usize,
-}
+ghost use Rattle.layout.specs.Calls.{heldRead, heldWrite, heldBuffer};
 
 fn held_ok(held: Held) -> bool
     ensures { λ r. ⌜ r ≡ heldOk held ⌝ }
@@ -30,7 +27,11 @@ fn held_ok(held: Held) -> bool
 pub fn write(held: Held, out: &mut [u8]) -> Written
     ensures { λ r. ⌜ (r ≡ heldWrite held (now (out .entry))) × (now (out .exit) ≡ heldBuffer held (now (out .entry))) ⌝ }
 {
-    let length = image_length(held.desk.purses, held.desk.ether.count, held.desk.archive.count);
+    let length = image_length(
+        held.desk.purses,
+        held.desk.ether.count,
+        held.desk.archive.count,
+    );
     let room = out.len();
     let n = tested(0, !held_ok(held), 2);
     let n = tested(n, room < length, 19);

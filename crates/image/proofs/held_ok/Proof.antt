@@ -1,9 +1,6 @@
 use Rattle.image.proofs.held_ok.Statement.{statement}
 use Rattle.image.proofs.held_ok.Tie as tie
-use Rattle.image.proofs.held_ok.Reads as reads
-use Rattle.image.proofs.held_ok.Lts as lts
 
--- src/lib.rt:23:1
 returns : tie.Need-returns
 returns c = ?
 

@@ -5,25 +5,16 @@ use Rattle.image.proofs.Calls.{read-done, read-rules, read-head}
 use borrow.Author.Needs.{needs}
 use Rattle.image.proofs.read.Statement.{statement}
 use Rattle.image.proofs.read.Tie as tie
-use Rattle.image.proofs.read.Reads as reads
-use Rattle.image.proofs.read.Lts as lts
-use Rattle.image.proofs.head.head_number.Reads as head-number-reads
-use Rattle.image.proofs.held_ok.Reads as held-ok-reads
-use Rattle.image.proofs.reading.get_bench.Reads as get-bench-reads
 
--- src/lib.rt:55:9
 head-number-requires : tie.Need-head-number-requires
 head-number-requires c κs = search needs
 
--- src/lib.rt:57:13
 get-bench-requires : tie.Need-get-bench-requires
 get-bench-requires c κs = sym (c .before .head-number .ensures) ∙ c .if1 .taken
 
--- src/lib.rt:58:12
 held-ok-requires : tie.Need-held-ok-requires
 held-ok-requires c κs = search needs
 
--- src/lib.rt:52:1
 returns : tie.Need-returns
 returns c =
     let start = c .before .before .before .before .before .before in
@@ -33,7 +24,6 @@ returns c =
     let found = c .before .before .get-bench .ensures in
     read-done (args .held) (args .bytes .now) lent head (ap heldOk (sym found) ∙ sym (c .before .held-ok .ensures) ∙ c .if2 .taken) found
 
--- src/lib.rt:52:1
 returns-2 : tie.Need-returns-2
 returns-2 c =
     let start = c .before .before .before .before .before .before in
@@ -43,7 +33,6 @@ returns-2 c =
     let found = c .before .before .get-bench .ensures in
     read-rules (args .held) (args .bytes .now) lent head (ap heldOk (sym found) ∙ sym (c .before .held-ok .ensures) ∙ c .if2 .left)
 
--- src/lib.rt:52:1
 returns-3 : tie.Need-returns-3
 returns-3 c =
     let start = c .before .before .before in

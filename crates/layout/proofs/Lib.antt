@@ -1,0 +1,7 @@
+pub mod Coded
+pub mod Records
+pub mod Firsts
+pub mod Heads
+pub mod Whole
+pub mod Stands
+pub mod Trips
