@@ -53,8 +53,8 @@ pub fn write(held: Held, out: &mut [u8]) -> Written
 pub fn read(held: Held, bytes: &[u8]) -> Answered
     ensures { λ r. ⌜ r ≡ heldRead held (now (bytes .entry)) ⌝ }
 {
-    let n = head_number(bytes);
-    if n == 0 {
+    let number = head_number(bytes);
+    if number == 0 {
         let found = get_bench(bytes);
         if held_ok(found) {
             Answered {
@@ -69,7 +69,7 @@ pub fn read(held: Held, bytes: &[u8]) -> Answered
         }
     } else {
         Answered {
-            answer: n,
+            answer: number,
             held: held,
         }
     }

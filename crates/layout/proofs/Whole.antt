@@ -11,6 +11,9 @@ use Rattle.purse.specs.declared.Message.{Message}
 use Rattle.purse.specs.Details.{zeroMessage}
 use Rattle.purse.specs.Purse.{zeroPurse}
 use Rattle.desk.specs.declared.Entry.{Entry}
+use Rattle.desk.specs.declared.Ether.{Ether}
+use Rattle.desk.specs.declared.Archive.{Archive}
+use Rattle.desk.specs.declared.Held.{Held}
 use Rattle.desk.specs.Desk.{zeroEntry}
 use Rattle.layout.specs.Bytes.{byte, byteAt, big, numberAt, flat, many}
 use Rattle.layout.specs.Fits.{All, Below}
@@ -216,30 +219,27 @@ lists-again l k h =
     ∙ c .again l 0 (omega (arith, h .long)) k
     ∙ take-all (10 + (136 * pursesIn l + (15 * messagesIn l + 15 * entriesIn l))) l (omega (arith, h .long))
 
--- the places of a table and a desk that an image gives: each list, and zeros behind it
-pub in-places : (l : List ℕ) → benchIn l
+-- a table and a desk that hold the lists of an image, and zeros behind each, are the bench that it gives
+pub placed : (l : List ℕ) {t : List Purse} {e : Ether} {a : Archive}
+    → t ≡ many purseAt 136 (pursesIn l) l 10 ++ replicate (32 - pursesIn l) zeroPurse
+    → e
     ≡ record {
-      table = many purseAt 136 (pursesIn l) l 10 ++ replicate (32 - pursesIn l) zeroPurse;
-      desk =
-          record {
-            purses = pursesIn l;
-            ether =
-                record {
-                  places = many messageAt 15 (messagesIn l) l (10 + 136 * pursesIn l) ++ replicate (256 - messagesIn l) zeroMessage;
-                  count = messagesIn l;
-                };
-            archive =
-                record {
-                  places =
-                      many entryAt 15 (entriesIn l) l (10 + 136 * pursesIn l + 15 * messagesIn l)
-                      ++ replicate (256 - entriesIn l) zeroEntry;
-                  count = entriesIn l;
-                };
-          };
+      places = many messageAt 15 (messagesIn l) l (10 + 136 * pursesIn l) ++ replicate (256 - messagesIn l) zeroMessage;
+      count = messagesIn l;
     }
+    → a
+    ≡ record {
+      places =
+          many entryAt 15 (entriesIn l) l (10 + 136 * pursesIn l + 15 * messagesIn l) ++ replicate (256 - entriesIn l) zeroEntry;
+      count = entriesIn l;
+    }
+    → _≡_ {A = Held} (record { table = t; desk = record { purses = pursesIn l; ether = e; archive = a } }) (benchIn l)
 unfolding benchIn listsIn
-in-places l =
+placed l p q r =
     rw (
+      p,
+      q,
+      r,
       length-many purseAt 136 (pursesIn l) l 10,
       length-many messageAt 15 (messagesIn l) l (10 + 136 * pursesIn l),
       length-many entryAt 15 (entriesIn l) l (10 + 136 * pursesIn l + 15 * messagesIn l),

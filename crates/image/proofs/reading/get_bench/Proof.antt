@@ -1,7 +1,7 @@
 use mathlib.Core.Path.{sym, _∙_}
 use Rattle.layout.specs.Head.{pursesIn}
 use Rattle.layout.proofs.Heads.{head-ok}
-use Rattle.layout.proofs.Whole.{in-places}
+use Rattle.layout.proofs.Whole.{placed}
 use borrow.Author.Needs.{needs}
 use Rattle.image.proofs.reading.get_bench.Statement.{statement}
 use Rattle.image.proofs.reading.get_bench.Tie as tie
@@ -78,11 +78,8 @@ returns c =
     let l = start .args .s .now in
     let messages = c .before .before .before .before .get-count .ensures in
     let entries = c .before .before .before .get-count2 .ensures in
-    let table = c .before .before .get-purses .ensures in
-    let ether = rw messages at (c .before .get-messages .ensures) in
-    let archive = rw (messages, entries) at (c .get-entries .ensures) in
-    (λ i. record { table = table i; desk = record { purses = pursesIn l; ether = ether i; archive = archive i } })
-    ∙ sym (in-places l)
+    placed l (c .before .before .get-purses .ensures) (rw messages at (c .before .get-messages .ensures))
+    (rw (messages, entries) at (c .get-entries .ensures))
 
 pub get-bench-spec : {M : Type 1} → statement M
 get-bench-spec =
