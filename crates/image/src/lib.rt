@@ -13,15 +13,9 @@ use desk::Answered;
 use desk::Held;
 use layout::Written;
 use purse::tested;
+use table::held_ok;
 ghost use mathlib.Core.Path.{_≡_};
-ghost use Rattle.rules.specs.Laid.{heldOk};
 ghost use Rattle.layout.specs.Calls.{heldRead, heldWrite, heldBuffer};
-
-fn held_ok(held: Held) -> bool
-    ensures { λ r. ⌜ r ≡ heldOk held ⌝ }
-{
-    false
-}
 
 // The image of a bench at the start of a buffer; output past the image is untouched, and a refusal writes nothing.
 pub fn write(held: Held, out: &mut [u8]) -> Written
