@@ -1,7 +1,7 @@
 -- The tests of one record, in the parts in which the code asks them: the running details, then the log.
 -- Assumes nothing.
 use Prim.Native.Nat.{ℕ}
-use mathlib.Core.Path.{_≡_, refl}
+use mathlib.Core.Path.{_≡_}
 use mathlib.Core.Bool.{true, false, _&&_, _||_, not}
 use mathlib.Core.Logic.{⊎-elim}
 use lib.ListN.{length}

@@ -1,4 +1,4 @@
--- Being the same is symmetric: of numbers, details, messages and entries. And a Bool is what holds where it does.
+-- Being the same is symmetric: of numbers, details, messages and entries. And Bools that hold together are equal.
 -- Assumes nothing.
 use Prim.Native.Nat.{ℕ}
 use mathlib.Core.Path.{_≡_, refl, sym, _∙_}

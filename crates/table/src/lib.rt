@@ -4,6 +4,7 @@ mod entries;
 mod messages;
 mod places;
 mod records;
+
 use card::rules::well_formed;
 use desk::Desk;
 use desk::Held;

@@ -98,7 +98,8 @@ fn payer_ok(p: Purse, m: Message) -> bool
 fn message_beside(p: Purse, own: Name, m: Message) -> bool
     ensures { λ r. ⌜ r ≡ messageBeside (own .0) p m ⌝ }
 {
-    (!(m.details.payee.0 == own.0) | payee_ok(p, m)) & (!(m.details.payer.0 == own.0) | payer_ok(p, m))
+    (!(m.details.payee.0 == own.0) | payee_ok(p, m))
+        & (!(m.details.payer.0 == own.0) | payer_ok(p, m))
 }
 
 pub fn each_beside(e: Ether, p: Purse, own: Name) -> bool

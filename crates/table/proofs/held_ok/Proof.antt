@@ -1,7 +1,9 @@
-use Prim.Native.Nat.{ℕ, _≤_, _<_, _-_, _+_}
-use mathlib.Core.Path.{_≡_, refl, ap, sym, _∙_}
-use mathlib.Core.Bool.{Bool, true, false, _&&_, _||_, not}
-use lib.ListN.{length, length-map, take, drop, getD}
+-- Each turn of the loop asks one record more; with the desk that is all the rules (Held).
+-- Assumes nothing.
+use Prim.Native.Nat.{ℕ, _≤_, _<_, _-_}
+use mathlib.Core.Path.{_≡_, ap, sym, _∙_}
+use mathlib.Core.Bool.{_&&_}
+use lib.ListN.{length, length-map, getD}
 use native.Mathlib.Omega.{arith}
 use Rattle.purse.specs.Lists.{every}
 use Rattle.purse.specs.Purse.{zeroPurse}
@@ -11,10 +13,6 @@ use Rattle.table.proofs.Held.{more-every, held-walked}
 use borrow.Author.Needs.{needs}
 use Rattle.table.proofs.held_ok.Statement.{statement}
 use Rattle.table.proofs.held_ok.Tie as tie
-use Rattle.table.proofs.held_ok.Reads as reads
-use Rattle.table.proofs.held_ok.Lts as lts
-use Rattle.table.proofs.desk_ok.Reads as desk-ok-reads
-use Rattle.table.proofs.record_ok.Reads as record-ok-reads
 
 abbrev Inv-loop : tie.InvT-loop
 Inv-loop held desk ok₀ i₀ ok i = (i ≤ 32) × (ok ≡ (ok₀ && every i (λ (j : ℕ). recordOk desk j (getD (held .table) j zeroPurse))))
@@ -22,35 +20,27 @@ Inv-loop held desk ok₀ i₀ ok i = (i ≤ 32) × (ok ≡ (ok₀ && every i (λ
 abbrev μ-loop : tie.MeasureT-loop
 μ-loop held desk ok₀ i₀ ok i = 32 - i
 
--- src/lib.rt:52:9
 desk-ok-requires : tie.Need-desk-ok-requires Inv-loop μ-loop
 desk-ok-requires c κs = search needs
 
--- src/lib.rt:54:5
 loop-holds : tie.Need-loop-holds Inv-loop μ-loop
 loop-holds c = (omega arith, sym (and-true (c .desk-ok .result)))
 
--- src/lib.rt:55:17
 mul-p : tie.Need-mul-p Inv-loop μ-loop
 mul-p c = search needs
 
--- src/lib.rt:55:17
 element-copy-out-p : tie.Need-element-copy-out-p Inv-loop μ-loop
 element-copy-out-p c = search needs
 
--- src/lib.rt:56:19
 record-ok-requires : tie.Need-record-ok-requires Inv-loop μ-loop
 record-ok-requires c κs = search needs
 
--- src/lib.rt:57:9
 add-i : tie.Need-add-i Inv-loop μ-loop
 add-i c = search needs
 
--- src/lib.rt:54:5
 loop-less : tie.Need-loop-less Inv-loop μ-loop
 loop-less c = search needs
 
--- src/lib.rt:54:5
 loop-again : tie.Need-loop-again Inv-loop μ-loop
 loop-again c =
     let at-loop = c .before .before .before in
@@ -60,13 +50,11 @@ loop-again c =
     let i = at-loop .loop .i in
     let g : i < length (h .table) = omega arith in
     let r : c .record-ok .result ≡ recordOk (h .desk) i (getD (h .table) i zeroPurse) =
-    c .record-ok .ensures ∙ ap (recordOk (h .desk) i) (at-any (h .table) i _ zeroPurse g) in
-    (
+    c .record-ok .ensures ∙ ap (recordOk (h .desk) i) (at-any (h .table) i _ zeroPurse g) in (
       omega arith,
       more-every (λ (j : ℕ). recordOk (h .desk) j (getD (h .table) j zeroPurse)) i (at-loop .before .desk-ok .result) (at-loop .loop .inv .1) r,
     )
 
--- src/lib.rt:48:1
 returns : tie.Need-returns Inv-loop μ-loop
 returns c =
     let at-loop = c .before in

@@ -5,25 +5,16 @@ use Rattle.table.specs.Records.{archiveAlone}
 use borrow.Author.Needs.{needs}
 use Rattle.table.proofs.entries.archive_alone.Statement.{statement}
 use Rattle.table.proofs.entries.archive_alone.Tie as tie
-use Rattle.table.proofs.entries.archive_alone.Reads as reads
-use Rattle.table.proofs.entries.archive_alone.Lts as lts
-use Rattle.table.proofs.entries.each_alone.Reads as each-alone-reads
-use Rattle.table.proofs.entries.no_two_equal.Reads as no-two-equal-reads
-use Rattle.table.proofs.entries.unused_zero.Reads as unused-zero-reads
 
--- src/entries.rt:77:24
 unused-zero-requires : tie.Need-unused-zero-requires
 unused-zero-requires c κs = search needs
 
--- src/entries.rt:77:41
 each-alone-requires : tie.Need-each-alone-requires
 each-alone-requires c κs = search needs
 
--- src/entries.rt:77:65
 no-two-equal-requires : tie.Need-no-two-equal-requires
 no-two-equal-requires c κs = search needs
 
--- src/entries.rt:74:1
 returns : tie.Need-returns
 unfolding archiveAlone
 returns c =

@@ -1,19 +1,17 @@
-use Prim.Native.Nat.{ℕ, _≤_, _<_, _-_, _+_}
-use mathlib.Core.Path.{_≡_, refl, ap, sym, _∙_}
-use mathlib.Core.Bool.{Bool, true, false, _&&_, _||_, not}
-use lib.ListN.{length, length-map, take, drop, getD}
+-- The places looked at, and the rest of them, come to all the unused places.
+-- Assumes nothing.
+use Prim.Native.Nat.{_-_}
+use mathlib.Core.Path.{_≡_, refl, ap, _∙_}
+use mathlib.Core.Bool.{_&&_}
+use lib.ListN.{length, length-map, drop, getD}
 use native.Mathlib.Omega.{arith}
-use Rattle.purse.specs.Lists.{all, among, distinct}
+use Rattle.purse.specs.Lists.{all}
 use Rattle.desk.specs.Desk.{zeroEntry, sameEntry}
 use Rattle.rules.specs.Laid.{isZeroEntry}
 use Rattle.table.proofs.Walks.{rest-more, rest-end}
 use borrow.Author.Needs.{needs}
 use Rattle.table.proofs.entries.unused_zero.Statement.{statement}
 use Rattle.table.proofs.entries.unused_zero.Tie as tie
-use Rattle.table.proofs.entries.unused_zero.Reads as reads
-use Rattle.table.proofs.entries.unused_zero.Lts as lts
-use Rattle.desk.proofs.Entry.same.Reads as same-reads
-use Rattle.desk.proofs.Entry.zero.Reads as zero-reads
 
 abbrev Inv-loop : tie.InvT-loop
 Inv-loop a z ok₀ i₀ ok i = (z ≡ zeroEntry) × ((ok && all isZeroEntry (drop i (a .places))) ≡ all isZeroEntry (drop i₀ (a .places)))
@@ -21,39 +19,30 @@ Inv-loop a z ok₀ i₀ ok i = (z ≡ zeroEntry) × ((ok && all isZeroEntry (dro
 abbrev μ-loop : tie.MeasureT-loop
 μ-loop a z ok₀ i₀ ok i = 256 - i
 
--- src/entries.rt:41:9
 zero-requires : tie.Need-zero-requires Inv-loop μ-loop
 zero-requires c κs = search needs
 
--- src/entries.rt:43:17
 cast-i : tie.Need-cast-i Inv-loop μ-loop
 cast-i c = search needs
 
--- src/entries.rt:44:5
 loop-holds : tie.Need-loop-holds Inv-loop μ-loop
 loop-holds c = (c .zero .ensures, refl)
 
--- src/entries.rt:45:17
 mul-e : tie.Need-mul-e Inv-loop μ-loop
 mul-e c = search needs
 
--- src/entries.rt:45:17
 element-copy-out-e : tie.Need-element-copy-out-e Inv-loop μ-loop
 element-copy-out-e c = search needs
 
--- src/entries.rt:46:19
 same-requires : tie.Need-same-requires Inv-loop μ-loop
 same-requires c κs = search needs
 
--- src/entries.rt:47:9
 add-i : tie.Need-add-i Inv-loop μ-loop
 add-i c = search needs
 
--- src/entries.rt:44:5
 loop-less : tie.Need-loop-less Inv-loop μ-loop
 loop-less c = search needs
 
--- src/entries.rt:44:5
 loop-again : tie.Need-loop-again Inv-loop μ-loop
 unfolding isZeroEntry
 loop-again c =
@@ -61,14 +50,12 @@ loop-again c =
     let start = at-loop .before .before in
     let a = start .args .t1 in
     let long : length (a .places) ≡ 256 = simp length-map at (start .good .0 .1 .1 .0 .1 .0 .1) in
-    let i = at-loop .loop .i in
-    (
+    let i = at-loop .loop .i in (
       at-loop .loop .inv .0,
       rest-more isZeroEntry (a .places) i zeroEntry (at-loop .loop .ok) (omega arith) (at-loop .loop .inv .1)
-      (c .same .ensures ∙ ap (sameEntry (getD (a .places) i zeroEntry)) (at-loop .loop .inv .0)),
+          (c .same .ensures ∙ ap (sameEntry (getD (a .places) i zeroEntry)) (at-loop .loop .inv .0)),
     )
 
--- src/entries.rt:38:1
 returns : tie.Need-returns Inv-loop μ-loop
 returns c =
     let at-loop = c .before in

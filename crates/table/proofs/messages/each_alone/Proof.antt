@@ -1,19 +1,16 @@
-use Prim.Native.Nat.{ℕ, _≤_, _<_, _-_, _+_}
-use mathlib.Core.Path.{_≡_, refl, ap, sym, _∙_}
-use mathlib.Core.Bool.{Bool, true, false, _&&_, _||_, not}
-use lib.ListN.{length, length-map, take, drop, getD}
+-- Each turn of the loop asks one message more of those that stand.
+-- Assumes nothing.
+use Prim.Native.Nat.{_≤_, _-_}
+use mathlib.Core.Path.{_≡_, refl}
+use lib.ListN.{length, length-map, take}
 use native.Mathlib.Omega.{arith}
-use Rattle.purse.specs.Lists.{all, among, distinct}
-use Rattle.purse.specs.Details.{zeroMessage, sameMessage}
+use Rattle.purse.specs.Lists.{all}
+use Rattle.purse.specs.Details.{zeroMessage}
 use Rattle.table.specs.Records.{messageAlone}
 use Rattle.table.proofs.Walks.{bounded, more-all, walked-all}
 use borrow.Author.Needs.{needs}
 use Rattle.table.proofs.messages.each_alone.Statement.{statement}
 use Rattle.table.proofs.messages.each_alone.Tie as tie
-use Rattle.table.proofs.messages.each_alone.Reads as reads
-use Rattle.table.proofs.messages.each_alone.Lts as lts
-use Rattle.table.proofs.messages.message_alone.Reads as message-alone-reads
-use Rattle.table.proofs.places.at_most.Reads as at-most-reads
 
 abbrev Inv-loop : tie.InvT-loop
 Inv-loop purses e count ok₀ i₀ ok i = (count ≤ 256) × (i ≤ count) × (ok ≡ all (messageAlone purses) (take i (e .places)))
@@ -21,52 +18,41 @@ Inv-loop purses e count ok₀ i₀ ok i = (count ≤ 256) × (i ≤ count) × (o
 abbrev μ-loop : tie.MeasureT-loop
 μ-loop purses e count ok₀ i₀ ok i = count - i
 
--- src/messages.rt:26:25
 cast-at-most : tie.Need-cast-at-most Inv-loop μ-loop
 cast-at-most c = search needs
 
--- src/messages.rt:26:9
 at-most-requires : tie.Need-at-most-requires Inv-loop μ-loop
 at-most-requires c κs = search needs
 
--- src/messages.rt:29:5
 loop-holds : tie.Need-loop-holds Inv-loop μ-loop
 loop-holds c = (bounded (c .before .args .t1 .count) 256 (c .at-most .ensures), omega arith, refl)
 
--- src/messages.rt:30:17
 mul-m : tie.Need-mul-m Inv-loop μ-loop
 mul-m c = search needs
 
--- src/messages.rt:30:17
 element-copy-out-m : tie.Need-element-copy-out-m Inv-loop μ-loop
 element-copy-out-m c = search needs
 
--- src/messages.rt:31:19
 message-alone-requires : tie.Need-message-alone-requires Inv-loop μ-loop
 message-alone-requires c κs = search needs
 
--- src/messages.rt:32:9
 add-i : tie.Need-add-i Inv-loop μ-loop
 add-i c = search needs
 
--- src/messages.rt:29:5
 loop-less : tie.Need-loop-less Inv-loop μ-loop
 loop-less c = search needs
 
--- src/messages.rt:29:5
 loop-again : tie.Need-loop-again Inv-loop μ-loop
 loop-again c =
     let at-loop = c .before .before .before in
     let start = at-loop .before .before in
     let e = start .args .t1 in
-    let long : length (e .places) ≡ 256 = simp length-map at (start .good .0 .1 .1 .0 .1 .0 .1) in
-    (
+    let long : length (e .places) ≡ 256 = simp length-map at (start .good .0 .1 .1 .0 .1 .0 .1) in (
       at-loop .loop .inv .0,
       omega arith,
       more-all (messageAlone (start .args .purses)) (e .places) (at-loop .loop .i) zeroMessage (omega arith) (at-loop .loop .inv .2) (c .message-alone .ensures),
     )
 
--- src/messages.rt:23:1
 returns : tie.Need-returns Inv-loop μ-loop
 returns c =
     let at-loop = c .before in

@@ -5,25 +5,16 @@ use Rattle.table.specs.Records.{etherAlone}
 use borrow.Author.Needs.{needs}
 use Rattle.table.proofs.messages.ether_alone.Statement.{statement}
 use Rattle.table.proofs.messages.ether_alone.Tie as tie
-use Rattle.table.proofs.messages.ether_alone.Reads as reads
-use Rattle.table.proofs.messages.ether_alone.Lts as lts
-use Rattle.table.proofs.messages.each_alone.Reads as each-alone-reads
-use Rattle.table.proofs.messages.no_two_equal.Reads as no-two-equal-reads
-use Rattle.table.proofs.messages.unused_zero.Reads as unused-zero-reads
 
--- src/messages.rt:76:24
 unused-zero-requires : tie.Need-unused-zero-requires
 unused-zero-requires c κs = search needs
 
--- src/messages.rt:76:41
 each-alone-requires : tie.Need-each-alone-requires
 each-alone-requires c κs = search needs
 
--- src/messages.rt:76:65
 no-two-equal-requires : tie.Need-no-two-equal-requires
 no-two-equal-requires c κs = search needs
 
--- src/messages.rt:73:1
 returns : tie.Need-returns
 unfolding etherAlone
 returns c =

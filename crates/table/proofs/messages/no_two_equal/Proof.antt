@@ -1,19 +1,16 @@
-use Prim.Native.Nat.{ℕ, _≤_, _<_, _-_, _+_}
-use mathlib.Core.Path.{_≡_, refl, ap, sym, _∙_}
-use mathlib.Core.Bool.{Bool, true, false, _&&_, _||_, not}
-use lib.ListN.{length, length-map, take, drop, getD}
+-- The inner loop looks for the message among those before it; the outer one has held each so far against those before it.
+-- Assumes nothing.
+use Prim.Native.Nat.{_≤_, _-_}
+use mathlib.Core.Path.{_≡_, refl}
+use lib.ListN.{length, length-map, take, getD}
 use native.Mathlib.Omega.{arith}
-use Rattle.purse.specs.Lists.{all, among, distinct}
+use Rattle.purse.specs.Lists.{among, distinct}
 use Rattle.purse.specs.Details.{zeroMessage, sameMessage}
 use Rattle.table.proofs.Walks.{bounded, more-any, more-apart, stops, walked-all}
 use Rattle.table.proofs.Same.{turn-message}
 use borrow.Author.Needs.{needs}
 use Rattle.table.proofs.messages.no_two_equal.Statement.{statement}
 use Rattle.table.proofs.messages.no_two_equal.Tie as tie
-use Rattle.table.proofs.messages.no_two_equal.Reads as reads
-use Rattle.table.proofs.messages.no_two_equal.Lts as lts
-use Rattle.purse.proofs.Message.same.Reads as same-reads
-use Rattle.table.proofs.places.at_most.Reads as at-most-reads
 
 abbrev Inv-loop2 : tie.InvT-loop2
 Inv-loop2 e count ok i m hit₀ j₀ hit j = (j ≤ i) × (hit ≡ among sameMessage m (take j (e .places)))
@@ -27,51 +24,39 @@ Inv-loop e count ok₀ i₀ ok i = (count ≤ 256) × (i ≤ count) × (ok ≡ d
 abbrev μ-loop : tie.MeasureT-loop
 μ-loop e count ok₀ i₀ ok i = count - i
 
--- src/messages.rt:55:25
 cast-at-most : tie.Need-cast-at-most Inv-loop2 μ-loop2 Inv-loop μ-loop
 cast-at-most c = search needs
 
--- src/messages.rt:55:9
 at-most-requires : tie.Need-at-most-requires Inv-loop2 μ-loop2 Inv-loop μ-loop
 at-most-requires c κs = search needs
 
--- src/messages.rt:58:5
 loop-holds : tie.Need-loop-holds Inv-loop2 μ-loop2 Inv-loop μ-loop
 loop-holds c = (bounded (c .before .args .t1 .count) 256 (c .at-most .ensures), omega arith, refl)
 
--- src/messages.rt:59:17
 mul-m : tie.Need-mul-m Inv-loop2 μ-loop2 Inv-loop μ-loop
 mul-m c = search needs
 
--- src/messages.rt:59:17
 element-copy-out-m : tie.Need-element-copy-out-m Inv-loop2 μ-loop2 Inv-loop μ-loop
 element-copy-out-m c = search needs
 
--- src/messages.rt:62:9
 loop2-holds : tie.Need-loop2-holds Inv-loop2 μ-loop2 Inv-loop μ-loop
 loop2-holds c = (omega arith, refl)
 
--- src/messages.rt:63:21
 mul-o : tie.Need-mul-o Inv-loop2 μ-loop2 Inv-loop μ-loop
 mul-o c = search needs
 
--- src/messages.rt:63:21
 element-copy-out-o : tie.Need-element-copy-out-o Inv-loop2 μ-loop2 Inv-loop μ-loop
 element-copy-out-o c = search needs
 
--- src/messages.rt:64:25
 same-requires : tie.Need-same-requires Inv-loop2 μ-loop2 Inv-loop μ-loop
 same-requires c κs = search needs
 
--- src/messages.rt:65:13
 add-j : tie.Need-add-j Inv-loop2 μ-loop2 Inv-loop μ-loop
 add-j c = search needs
 
--- src/messages.rt:62:9
 loop2-less : tie.Need-loop2-less Inv-loop2 μ-loop2 Inv-loop μ-loop
 loop2-less c = search needs
 
--- src/messages.rt:62:9
 loop2-again : tie.Need-loop2-again Inv-loop2 μ-loop2 Inv-loop μ-loop
 loop2-again c =
     let at-loop2 = c .before .before .before in
@@ -79,21 +64,17 @@ loop2-again c =
     let start = at-loop .before .before in
     let e = start .args .t1 in
     let long : length (e .places) ≡ 256 = simp length-map at (start .good .0 .1 .1 .0 .1 .0 .1) in
-    let i = at-loop .loop .i in
-    (
+    let i = at-loop .loop .i in (
       omega arith,
       more-any sameMessage (getD (e .places) i zeroMessage) (e .places) (at-loop2 .loop2 .j) zeroMessage (omega arith) (at-loop2 .loop2 .inv .1) (c .same .ensures),
     )
 
--- src/messages.rt:68:9
 add-i : tie.Need-add-i Inv-loop2 μ-loop2 Inv-loop μ-loop
 add-i c = search needs
 
--- src/messages.rt:58:5
 loop-less : tie.Need-loop-less Inv-loop2 μ-loop2 Inv-loop μ-loop
 loop-less c = search needs
 
--- src/messages.rt:58:5
 loop-again : tie.Need-loop-again Inv-loop2 μ-loop2 Inv-loop μ-loop
 loop-again c =
     let at-loop2 = c .before in
@@ -101,15 +82,13 @@ loop-again c =
     let start = at-loop .before .before in
     let e = start .args .t1 in
     let long : length (e .places) ≡ 256 = simp length-map at (start .good .0 .1 .1 .0 .1 .0 .1) in
-    let i = at-loop .loop .i in
-    (
+    let i = at-loop .loop .i in (
       at-loop .loop .inv .0,
       omega arith,
       more-apart sameMessage turn-message (e .places) i zeroMessage (omega arith) (at-loop .loop .inv .2)
-      (stops (among sameMessage (getD (e .places) i zeroMessage)) (e .places) (at-loop2 .loop2 .j) i (omega arith) (at-loop2 .loop2 .inv .1)),
+          (stops (among sameMessage (getD (e .places) i zeroMessage)) (e .places) (at-loop2 .loop2 .j) i (omega arith) (at-loop2 .loop2 .inv .1)),
     )
 
--- src/messages.rt:52:1
 returns : tie.Need-returns Inv-loop2 μ-loop2 Inv-loop μ-loop
 returns c =
     let at-loop = c .before in

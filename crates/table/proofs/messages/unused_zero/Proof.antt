@@ -1,19 +1,17 @@
-use Prim.Native.Nat.{ℕ, _≤_, _<_, _-_, _+_}
-use mathlib.Core.Path.{_≡_, refl, ap, sym, _∙_}
-use mathlib.Core.Bool.{Bool, true, false, _&&_, _||_, not}
-use lib.ListN.{length, length-map, take, drop, getD}
+-- The places looked at, and the rest of them, come to all the unused places.
+-- Assumes nothing.
+use Prim.Native.Nat.{_-_}
+use mathlib.Core.Path.{_≡_, refl, ap, _∙_}
+use mathlib.Core.Bool.{_&&_}
+use lib.ListN.{length, length-map, drop, getD}
 use native.Mathlib.Omega.{arith}
-use Rattle.purse.specs.Lists.{all, among, distinct}
+use Rattle.purse.specs.Lists.{all}
 use Rattle.purse.specs.Details.{zeroMessage, sameMessage}
 use Rattle.rules.specs.Laid.{isZeroMessage}
 use Rattle.table.proofs.Walks.{rest-more, rest-end}
 use borrow.Author.Needs.{needs}
 use Rattle.table.proofs.messages.unused_zero.Statement.{statement}
 use Rattle.table.proofs.messages.unused_zero.Tie as tie
-use Rattle.table.proofs.messages.unused_zero.Reads as reads
-use Rattle.table.proofs.messages.unused_zero.Lts as lts
-use Rattle.purse.proofs.Message.same.Reads as same-reads
-use Rattle.purse.proofs.Message.zero.Reads as zero-reads
 
 abbrev Inv-loop : tie.InvT-loop
 Inv-loop e z ok₀ i₀ ok i = (z ≡ zeroMessage) × ((ok && all isZeroMessage (drop i (e .places))) ≡ all isZeroMessage (drop i₀ (e .places)))
@@ -21,39 +19,30 @@ Inv-loop e z ok₀ i₀ ok i = (z ≡ zeroMessage) × ((ok && all isZeroMessage 
 abbrev μ-loop : tie.MeasureT-loop
 μ-loop e z ok₀ i₀ ok i = 256 - i
 
--- src/messages.rt:40:9
 zero-requires : tie.Need-zero-requires Inv-loop μ-loop
 zero-requires c κs = search needs
 
--- src/messages.rt:42:17
 cast-i : tie.Need-cast-i Inv-loop μ-loop
 cast-i c = search needs
 
--- src/messages.rt:43:5
 loop-holds : tie.Need-loop-holds Inv-loop μ-loop
 loop-holds c = (c .zero .ensures, refl)
 
--- src/messages.rt:44:17
 mul-m : tie.Need-mul-m Inv-loop μ-loop
 mul-m c = search needs
 
--- src/messages.rt:44:17
 element-copy-out-m : tie.Need-element-copy-out-m Inv-loop μ-loop
 element-copy-out-m c = search needs
 
--- src/messages.rt:45:19
 same-requires : tie.Need-same-requires Inv-loop μ-loop
 same-requires c κs = search needs
 
--- src/messages.rt:46:9
 add-i : tie.Need-add-i Inv-loop μ-loop
 add-i c = search needs
 
--- src/messages.rt:43:5
 loop-less : tie.Need-loop-less Inv-loop μ-loop
 loop-less c = search needs
 
--- src/messages.rt:43:5
 loop-again : tie.Need-loop-again Inv-loop μ-loop
 unfolding isZeroMessage
 loop-again c =
@@ -61,14 +50,12 @@ loop-again c =
     let start = at-loop .before .before in
     let e = start .args .t1 in
     let long : length (e .places) ≡ 256 = simp length-map at (start .good .0 .1 .1 .0 .1 .0 .1) in
-    let i = at-loop .loop .i in
-    (
+    let i = at-loop .loop .i in (
       at-loop .loop .inv .0,
       rest-more isZeroMessage (e .places) i zeroMessage (at-loop .loop .ok) (omega arith) (at-loop .loop .inv .1)
-      (c .same .ensures ∙ ap (sameMessage (getD (e .places) i zeroMessage)) (at-loop .loop .inv .0)),
+          (c .same .ensures ∙ ap (sameMessage (getD (e .places) i zeroMessage)) (at-loop .loop .inv .0)),
     )
 
--- src/messages.rt:37:1
 returns : tie.Need-returns Inv-loop μ-loop
 returns c =
     let at-loop = c .before in

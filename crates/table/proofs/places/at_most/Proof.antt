@@ -1,14 +1,10 @@
 use borrow.Author.Tests.{lt-ltb, le-ltb}
 use Rattle.table.proofs.places.at_most.Statement.{statement}
 use Rattle.table.proofs.places.at_most.Tie as tie
-use Rattle.table.proofs.places.at_most.Reads as reads
-use Rattle.table.proofs.places.at_most.Lts as lts
 
--- src/places.rt:7:1
 returns : tie.Need-returns
 returns c = rw (lt-ltb _ _ (c .if1 .taken))
 
--- src/places.rt:7:1
 returns-2 : tie.Need-returns-2
 returns-2 c = rw (le-ltb _ _ (c .if1 .left))
 

@@ -1,10 +1,7 @@
 use Rattle.table.specs.Records.{within}
 use Rattle.table.proofs.places.is_within.Statement.{statement}
 use Rattle.table.proofs.places.is_within.Tie as tie
-use Rattle.table.proofs.places.is_within.Reads as reads
-use Rattle.table.proofs.places.is_within.Lts as lts
 
--- src/places.rt:14:1
 returns : tie.Need-returns
 unfolding within
 returns c = cc

@@ -1,9 +1,10 @@
-use Prim.Native.Nat.{ℕ, _≤_, _<_, _-_, _+_}
-use mathlib.Core.Path.{_≡_, refl, ap, sym, _∙_}
-use mathlib.Core.Bool.{Bool, true, false, _&&_, _||_, not}
-use lib.ListN.{length, length-map, take, drop, getD}
+-- Each turn of the loop looks at one log entry more; the running details are looked at beside it.
+-- Assumes nothing.
+use Prim.Native.Nat.{_≤_, _-_}
+use mathlib.Core.Path.{_≡_, refl, sym}
+use lib.ListN.{length, length-map, take}
 use native.Mathlib.Omega.{arith}
-use Rattle.purse.specs.Lists.{all, among, distinct}
+use Rattle.purse.specs.Lists.{among}
 use Rattle.purse.specs.Details.{zeroDetails, sameDetails}
 use Rattle.rules.specs.Bench.{kept}
 use Rattle.table.proofs.Walks.{bounded, more-any, walked-all}
@@ -11,10 +12,6 @@ use Rattle.table.proofs.Record.{holds-parts}
 use borrow.Author.Needs.{needs}
 use Rattle.table.proofs.records.holds.Statement.{statement}
 use Rattle.table.proofs.records.holds.Tie as tie
-use Rattle.table.proofs.records.holds.Reads as reads
-use Rattle.table.proofs.records.holds.Lts as lts
-use Rattle.purse.proofs.Details.same.Reads as same-reads
-use Rattle.table.proofs.places.at_most.Reads as at-most-reads
 
 abbrev Inv-loop : tie.InvT-loop
 Inv-loop d p count hit₀ i₀ hit i = (count ≤ 8) × (i ≤ count) × (hit ≡ among sameDetails d (take i (p .log)))
@@ -22,56 +19,44 @@ Inv-loop d p count hit₀ i₀ hit i = (count ≤ 8) × (i ≤ count) × (hit �
 abbrev μ-loop : tie.MeasureT-loop
 μ-loop d p count hit₀ i₀ hit i = count - i
 
--- src/records.rt:29:25
 cast-at-most : tie.Need-cast-at-most Inv-loop μ-loop
 cast-at-most c = search needs
 
--- src/records.rt:29:9
 at-most-requires : tie.Need-at-most-requires Inv-loop μ-loop
 at-most-requires c κs = search needs
 
--- src/records.rt:32:5
 loop-holds : tie.Need-loop-holds Inv-loop μ-loop
 loop-holds c = (bounded (c .before .args .t1 .logged) 8 (c .at-most .ensures), omega arith, refl)
 
--- src/records.rt:33:17
 mul-e : tie.Need-mul-e Inv-loop μ-loop
 mul-e c = search needs
 
--- src/records.rt:33:17
 element-copy-out-e : tie.Need-element-copy-out-e Inv-loop μ-loop
 element-copy-out-e c = search needs
 
--- src/records.rt:34:21
 same-requires : tie.Need-same-requires Inv-loop μ-loop
 same-requires c κs = search needs
 
--- src/records.rt:35:9
 add-i : tie.Need-add-i Inv-loop μ-loop
 add-i c = search needs
 
--- src/records.rt:32:5
 loop-less : tie.Need-loop-less Inv-loop μ-loop
 loop-less c = search needs
 
--- src/records.rt:32:5
 loop-again : tie.Need-loop-again Inv-loop μ-loop
 loop-again c =
     let at-loop = c .before .before .before in
     let start = at-loop .before .before in
     let p = start .args .t1 in
-    let long : length (p .log) ≡ 8 = simp length-map at (start .good .0 .1 .1 .1 .1 .1 .1 .0 .1 .0 .1) in
-    (
+    let long : length (p .log) ≡ 8 = simp length-map at (start .good .0 .1 .1 .1 .1 .1 .1 .0 .1 .0 .1) in (
       at-loop .loop .inv .0,
       omega arith,
       more-any sameDetails (start .args .d) (p .log) (at-loop .loop .i) zeroDetails (omega arith) (at-loop .loop .inv .2) (c .same .ensures),
     )
 
--- src/records.rt:37:25
 same-requires-2 : tie.Need-same-requires-2 Inv-loop μ-loop
 same-requires-2 c κs = search needs
 
--- src/records.rt:26:1
 returns : tie.Need-returns Inv-loop μ-loop
 returns c =
     let at-loop = c .before .before .before in

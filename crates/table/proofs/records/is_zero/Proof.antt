@@ -1,9 +1,10 @@
-use Prim.Native.Nat.{ℕ, _≤_, _<_, _-_, _+_}
+-- Each turn of the loop asks one log place more; the other fields are asked beside it.
+-- Assumes nothing.
+use Prim.Native.Nat.{_≤_, _-_}
 use mathlib.Core.Path.{_≡_, refl, ap, sym, _∙_}
-use mathlib.Core.Bool.{Bool, true, false, _&&_, _||_, not}
-use lib.ListN.{length, length-map, take, drop, getD}
+use lib.ListN.{length, length-map, take, getD}
 use native.Mathlib.Omega.{arith}
-use Rattle.purse.specs.Lists.{all, among, distinct}
+use Rattle.purse.specs.Lists.{all}
 use lib.Seq.{take-all}
 use Rattle.purse.specs.declared.Details.{Details}
 use Rattle.purse.specs.Details.{zeroDetails, sameDetails}
@@ -12,10 +13,6 @@ use Rattle.table.proofs.Record.{zero-parts}
 use borrow.Author.Needs.{needs}
 use Rattle.table.proofs.records.is_zero.Statement.{statement}
 use Rattle.table.proofs.records.is_zero.Tie as tie
-use Rattle.table.proofs.records.is_zero.Reads as reads
-use Rattle.table.proofs.records.is_zero.Lts as lts
-use Rattle.purse.proofs.Details.same.Reads as same-reads
-use Rattle.purse.proofs.Details.zero.Reads as zero-reads
 
 abbrev Inv-loop : tie.InvT-loop
 Inv-loop p z ok₀ i₀ ok i = (i ≤ 8) × (z ≡ zeroDetails) × (ok ≡ all (λ (d : Details). sameDetails d zeroDetails) (take i (p .log)))
@@ -23,54 +20,43 @@ Inv-loop p z ok₀ i₀ ok i = (i ≤ 8) × (z ≡ zeroDetails) × (ok ≡ all (
 abbrev μ-loop : tie.MeasureT-loop
 μ-loop p z ok₀ i₀ ok i = 8 - i
 
--- src/records.rt:44:9
 zero-requires : tie.Need-zero-requires Inv-loop μ-loop
 zero-requires c κs = search needs
 
--- src/records.rt:47:5
 loop-holds : tie.Need-loop-holds Inv-loop μ-loop
 loop-holds c = (omega arith, c .zero .ensures, refl)
 
--- src/records.rt:48:17
 mul-d : tie.Need-mul-d Inv-loop μ-loop
 mul-d c = search needs
 
--- src/records.rt:48:17
 element-copy-out-d : tie.Need-element-copy-out-d Inv-loop μ-loop
 element-copy-out-d c = search needs
 
--- src/records.rt:49:19
 same-requires : tie.Need-same-requires Inv-loop μ-loop
 same-requires c κs = search needs
 
--- src/records.rt:50:9
 add-i : tie.Need-add-i Inv-loop μ-loop
 add-i c = search needs
 
--- src/records.rt:47:5
 loop-less : tie.Need-loop-less Inv-loop μ-loop
 loop-less c = search needs
 
--- src/records.rt:47:5
 loop-again : tie.Need-loop-again Inv-loop μ-loop
 loop-again c =
     let at-loop = c .before .before .before in
     let start = at-loop .before .before in
     let p = start .args .t1 in
     let long : length (p .log) ≡ 8 = simp length-map at (start .good .0 .1 .1 .1 .1 .1 .1 .0 .1 .0 .1) in
-    let i = at-loop .loop .i in
-    (
+    let i = at-loop .loop .i in (
       omega arith,
       at-loop .loop .inv .1,
       more-all (λ (d : Details). sameDetails d zeroDetails) (p .log) i zeroDetails (omega arith) (at-loop .loop .inv .2)
-      (c .same .ensures ∙ ap (sameDetails (getD (p .log) i zeroDetails)) (at-loop .loop .inv .1)),
+          (c .same .ensures ∙ ap (sameDetails (getD (p .log) i zeroDetails)) (at-loop .loop .inv .1)),
     )
 
--- src/records.rt:56:11
 same-requires-2 : tie.Need-same-requires-2 Inv-loop μ-loop
 same-requires-2 c κs = search needs
 
--- src/records.rt:41:1
 returns : tie.Need-returns Inv-loop μ-loop
 returns c =
     let at-loop = c .before .before .before in

@@ -1,9 +1,10 @@
-use Prim.Native.Nat.{ℕ, _≤_, _<_, _-_, _+_}
-use mathlib.Core.Path.{_≡_, refl, ap, sym, _∙_}
-use mathlib.Core.Bool.{Bool, true, false, _&&_, _||_, not}
-use lib.ListN.{length, length-map, take, drop, getD}
+-- Each turn of the loop asks one log entry more; the running details are asked beside it.
+-- Assumes nothing.
+use Prim.Native.Nat.{_≤_, _-_}
+use mathlib.Core.Path.{_≡_, refl, sym}
+use lib.ListN.{length, length-map, take}
 use native.Mathlib.Omega.{arith}
-use Rattle.purse.specs.Lists.{all, among, distinct}
+use Rattle.purse.specs.Lists.{all}
 use Rattle.purse.specs.Details.{zeroDetails}
 use Rattle.rules.specs.Bench.{kept}
 use Rattle.table.specs.Records.{within}
@@ -12,10 +13,6 @@ use Rattle.table.proofs.Record.{names-parts}
 use borrow.Author.Needs.{needs}
 use Rattle.table.proofs.records.names_ok.Statement.{statement}
 use Rattle.table.proofs.records.names_ok.Tie as tie
-use Rattle.table.proofs.records.names_ok.Reads as reads
-use Rattle.table.proofs.records.names_ok.Lts as lts
-use Rattle.table.proofs.places.at_most.Reads as at-most-reads
-use Rattle.table.proofs.places.is_within.Reads as is-within-reads
 
 abbrev Inv-loop : tie.InvT-loop
 Inv-loop purses p count ok₀ i₀ ok i = (count ≤ 8) × (i ≤ count) × (ok ≡ all (within purses) (take i (p .log)))
@@ -23,56 +20,44 @@ Inv-loop purses p count ok₀ i₀ ok i = (count ≤ 8) × (i ≤ count) × (ok 
 abbrev μ-loop : tie.MeasureT-loop
 μ-loop purses p count ok₀ i₀ ok i = count - i
 
--- src/records.rt:14:25
 cast-at-most : tie.Need-cast-at-most Inv-loop μ-loop
 cast-at-most c = search needs
 
--- src/records.rt:14:9
 at-most-requires : tie.Need-at-most-requires Inv-loop μ-loop
 at-most-requires c κs = search needs
 
--- src/records.rt:17:5
 loop-holds : tie.Need-loop-holds Inv-loop μ-loop
 loop-holds c = (bounded (c .before .args .t1 .logged) 8 (c .at-most .ensures), omega arith, refl)
 
--- src/records.rt:18:17
 mul-d : tie.Need-mul-d Inv-loop μ-loop
 mul-d c = search needs
 
--- src/records.rt:18:17
 element-copy-out-d : tie.Need-element-copy-out-d Inv-loop μ-loop
 element-copy-out-d c = search needs
 
--- src/records.rt:19:19
 is-within-requires : tie.Need-is-within-requires Inv-loop μ-loop
 is-within-requires c κs = search needs
 
--- src/records.rt:20:9
 add-i : tie.Need-add-i Inv-loop μ-loop
 add-i c = search needs
 
--- src/records.rt:17:5
 loop-less : tie.Need-loop-less Inv-loop μ-loop
 loop-less c = search needs
 
--- src/records.rt:17:5
 loop-again : tie.Need-loop-again Inv-loop μ-loop
 loop-again c =
     let at-loop = c .before .before .before in
     let start = at-loop .before .before in
     let p = start .args .t1 in
-    let long : length (p .log) ≡ 8 = simp length-map at (start .good .0 .1 .1 .1 .1 .1 .1 .0 .1 .0 .1) in
-    (
+    let long : length (p .log) ≡ 8 = simp length-map at (start .good .0 .1 .1 .1 .1 .1 .1 .0 .1 .0 .1) in (
       at-loop .loop .inv .0,
       omega arith,
       more-all (within (start .args .purses)) (p .log) (at-loop .loop .i) zeroDetails (omega arith) (at-loop .loop .inv .2) (c .is-within .ensures),
     )
 
--- src/records.rt:22:24
 is-within-requires-2 : tie.Need-is-within-requires-2 Inv-loop μ-loop
 is-within-requires-2 c κs = search needs
 
--- src/records.rt:11:1
 returns : tie.Need-returns Inv-loop μ-loop
 returns c =
     let at-loop = c .before .before .before in
