@@ -1,0 +1,515 @@
+#!/usr/bin/env python3
+"""The differential rig: drives the bench program and the probe beside the model of document 01 and
+compares every byte that they give.
+
+    rig.py                          both programs, at their places under target/bin
+    rig.py --short                  about half a minute
+    rig.py --seed 7 --events 1000000 --requests 100000
+    rig.py --prs PATH --probe PATH  other programs
+
+Parts: the edges of document 01; lists of events through the program (accepted and refused ones,
+replays, losses, full logs, archive and ether, bad openings, cut events); requests to the probe on
+right and damaged benches, images and records; and the ends of the probe's stream. The test vectors
+are run by vectors.py and examples.sh.
+
+A failure says the seed, the case and the first difference, and keeps the input under target/rig.
+The last line is 'N passed, M failed'; the exit status is 1 on any failure.
+"""
+
+import argparse
+import random
+import signal
+import struct
+import subprocess
+import sys
+from bisect import bisect_right
+from collections import Counter
+
+from common import PROBE, PRS, ROOT, finish
+from edges import edges
+import generate
+import model
+from model import DETAILS, ENTRIES, LOG_PLACES, MARKED, MESSAGES, PURSES, RECORD_SIZE
+
+KEPT = ROOT / "target" / "rig"
+PATIENCE = 30  # seconds for one reply or listing
+SHOWN = 10  # failures told in full
+
+# ---- Replies in words: the fields of a reply and where they stand
+
+
+def details_layout(where):
+    names = ["payer", "payer's number", "payee", "payee's number", "amount"]
+    return [(f"{where} {name}", size) for name, size in zip(names, [1, 4, 1, 4, 4])]
+
+
+def record_layout(where):
+    fields = [(f"{where} balance", 4), (f"{where} next number", 4)]
+    fields += [(f"{where} status", 1), (f"{where} log count", 1)]
+    fields += details_layout(f"{where} running details")
+    for place in range(LOG_PLACES):
+        fields += details_layout(f"{where} log place {place}")
+    return fields
+
+
+def marked_layout(where, mark):
+    return [(f"{where} {mark}", 1)] + details_layout(where)
+
+
+def state_layout():
+    fields = [("purse count", 1)]
+    for name in range(PURSES):
+        fields += record_layout(f"purse {name}")
+    fields.append(("message count", 2))
+    for place in range(MESSAGES):
+        fields += marked_layout(f"message {place}", "kind")
+    fields.append(("archive count", 2))
+    for place in range(ENTRIES):
+        fields += marked_layout(f"archive entry {place}", "logging purse")
+    return fields
+
+
+def image_layout(bench):
+    fields = [("mark", 3), ("version", 2), ("purse count", 1), ("message count", 2), ("archive count", 2)]
+    for name in range(bench.count):
+        fields += record_layout(f"purse {name}")
+    for place in range(bench.message_count):
+        fields += marked_layout(f"message {place}", "kind")
+    for place in range(bench.archive_count):
+        fields += marked_layout(f"archive entry {place}", "logging purse")
+    return [(f"image {name}", size) for name, size in fields]
+
+
+def reply_layout(letter, bench):
+    answer = [("answer", 1)]
+    if letter in "EOR":
+        return answer + state_layout()
+    if letter == "W":
+        return answer + [("image length", 2)] + (image_layout(bench) if model.well_formed(bench) else [])
+    if letter == "C":
+        return answer + [("claims", 4)]
+    handed = marked_layout("message handed out", "kind") + details_layout("details handed out")
+    return answer + record_layout("record") + handed
+
+
+def difference(want, got, layout):
+    """The first difference of two replies, in words; None where they are equal."""
+    if want == got:
+        return None
+    at = next((i for i, (a, b) in enumerate(zip(want, got)) if a != b), min(len(want), len(got)))
+    if at == len(got):
+        return f"the reply ends after {len(got)} of {len(want)} bytes"
+    starts = [0]
+    for _, size in layout:
+        starts.append(starts[-1] + size)
+    field = bisect_right(starts, at) - 1
+    if field >= len(layout):
+        return f"byte {at} of the reply: expected {want[at]}, got {got[at]}"
+    name, size = layout[field]
+    begins = starts[field]
+    numbers = [int.from_bytes(reply[begins : begins + size], "big") for reply in (want, got)]
+    return f"{name}: expected {numbers[0]}, got {numbers[1]}"
+
+
+# ---- Events in words
+
+KINDS = {1: "start-from", 2: "start-to", 3: "deliver", 4: "abort", 5: "lose", 6: "collect"}
+
+
+def told(data):
+    """An event in words, for a person who looks at a failure."""
+    if len(data) != model.EVENT.size:
+        return f"event of {len(data)} bytes {data.hex()}"
+    kind, purse, counterparty, spare, number, amount = model.EVENT.unpack(data)
+    fields = f"purse {purse} counterparty {counterparty} spare {spare} number {number} amount {amount}"
+    return f"{KINDS.get(kind, f'kind {kind}')} {fields}"
+
+
+# ---- States and requests as bytes
+
+
+def state_bytes(bench):
+    return b"".join(
+        [
+            bytes([bench.count]),
+            *map(model.record_bytes, bench.table),
+            struct.pack(">H", bench.message_count),
+            model.marked_bytes(bench.messages),
+            struct.pack(">H", bench.archive_count),
+            model.marked_bytes(bench.archive),
+        ]
+    )
+
+
+class Request:
+    """One request to the probe with the reply that the model expects, and words about it."""
+
+    def __init__(self, letter, bench, body, reply, says):
+        self.letter, self.bench, self.says = letter, bench, says
+        self.bytes = letter.encode() + body
+        self.reply = reply
+
+    def difference(self, got):
+        return difference(self.reply, got, reply_layout(self.letter, self.bench))
+
+
+def event_request(bench, data, says):
+    after = bench.copy()
+    answer = model.event(after, data)
+    body = state_bytes(bench) + bytes([len(data)]) + data
+    return Request("E", bench, body, bytes([answer]) + state_bytes(after), f"{told(data)}, {says}")
+
+
+def opening_request(bench, balances, says):
+    after = bench.copy()
+    answer = model.opening(after, balances)
+    body = state_bytes(bench) + struct.pack(f">B{len(balances)}I", len(balances), *balances)
+    return Request("O", bench, body, bytes([answer]) + state_bytes(after), f"balances {balances}, {says}")
+
+
+def read_request(bench, image, says):
+    after = bench.copy()
+    answer = model.read(after, image)
+    body = state_bytes(bench) + struct.pack(">H", len(image)) + image
+    return Request("R", bench, body, bytes([answer]) + state_bytes(after), f"{len(image)} bytes, {says}")
+
+
+def write_request(bench, size, says):
+    buffer = bytearray(b"\xaa" * size)
+    answer, length = model.write(bench, buffer)
+    body = state_bytes(bench) + struct.pack(">H", size)
+    reply = struct.pack(">BH", answer, length) + buffer
+    return Request("W", bench, body, reply, f"buffer of {size} bytes, {says}")
+
+
+def claims_request(bench, says):
+    right = model.well_formed(bench)
+    reply = struct.pack(">BI", 0 if right else 2, model.claims(bench) if right else 0)
+    return Request("C", bench, state_bytes(bench), reply, says)
+
+
+def card_request(told_to_card, says):
+    name, purse, kind, counterparty, number, amount, message = told_to_card
+    answer, after, sent, collected = model.card(*told_to_card)
+    body = bytes([name]) + model.record_bytes(purse)
+    body += struct.pack(">BBII", kind, counterparty, number, amount) + model.marked_bytes([message])
+    reply = bytes([answer]) + model.record_bytes(after)
+    reply += model.marked_bytes([sent]) + model.details_bytes(collected)
+    about = f"own name {name}, {KINDS[kind]}, counterparty {counterparty}, number {number}, amount {amount}"
+    return Request("P", None, body, reply, f"{about}, {message}, {says}")
+
+
+def write_size(rng, bench):
+    """A buffer length about the image's own."""
+    needed = model.image_length(bench.count, bench.message_count, bench.archive_count)
+    near = [needed, needed, needed - 1, needed + 1, 0, 9, 10, 12042, 12041, rng.randint(0, 12100)]
+    return min(65535, rng.choice(near + [65535] * (rng.random() < 0.1)))
+
+
+def drawn_request(rng, pool):
+    """One request of any kind."""
+    bench, says = pool.bench(rng)
+    if rng.random() < 0.1:
+        return card_request(*generate.card_input(rng, bench))
+    event = generate.event_of(rng, bench)  # drawn before the damage, so it may be a right one
+    harm = rng.random()
+    if harm < 0.5:
+        says += ", " + generate.damage(rng, bench)
+        if harm < 0.05 and model.PURSES >= bench.count >= 1:
+            says += ", " + generate.damage(rng, bench)
+    letter = rng.choices("EORWCP", [40, 5, 20, 15, 10, 10])[0]
+    if letter == "E":
+        return event_request(bench, event, says)
+    if letter == "O":
+        return opening_request(bench, generate.bad_balances(rng), says)
+    if letter == "R":
+        image, kind = stored_image(rng, bench)
+        before, _ = pool.bench(rng)
+        if rng.random() < 0.3:
+            generate.damage(rng, before)
+        return read_request(before, image, f"{says}, {kind}")
+    if letter == "W":
+        return write_request(bench, write_size(rng, bench), says)
+    if letter == "C":
+        return claims_request(bench, says)
+    right, _ = pool.bench(rng)
+    return card_request(*generate.card_input(rng, right))
+
+
+def stored_image(rng, bench):
+    """An image of the bench, as it is or damaged once more; of a new one where counts are wrong."""
+    if bench.count > PURSES or bench.message_count > MESSAGES or bench.archive_count > ENTRIES:
+        bench = generate.built(rng)
+    if model.well_formed(bench) or rng.random() < 0.2:
+        return generate.image_input(rng, bench)
+    return model.image(bench), "image of it"
+
+
+# ---- The programs
+
+
+class TooSlow(Exception):
+    pass
+
+
+def out_of_time(_signal, _frame):
+    raise TooSlow()
+
+
+class Probe:
+    """The probe as a running program, one request and one reply at a time."""
+
+    def __init__(self, path):
+        self.path = path
+        self.start()
+
+    def start(self):
+        self.running = subprocess.Popen([self.path], stdin=subprocess.PIPE, stdout=subprocess.PIPE)
+
+    def ask(self, request):
+        """The reply, as long as the model's or shorter; the program is started anew where it fell."""
+        got = b""
+        signal.setitimer(signal.ITIMER_REAL, PATIENCE)
+        try:
+            self.running.stdin.write(request.bytes)
+            self.running.stdin.flush()
+            got = self.running.stdout.read(len(request.reply))
+        except (BrokenPipeError, TooSlow):
+            pass
+        signal.setitimer(signal.ITIMER_REAL, 0)
+        if got != request.reply:
+            self.running.kill()
+            self.running.wait()
+            self.start()
+        return got
+
+    def end(self):
+        """What it still writes once the input ends, and its exit status."""
+        try:
+            left, _ = self.running.communicate(timeout=PATIENCE)
+        except subprocess.TimeoutExpired:
+            self.running.kill()
+            return b"", "no end"
+        return left, self.running.returncode
+
+
+def output_of(path, data):
+    """Everything a program writes for an input, and its exit status."""
+    try:
+        run = subprocess.run([path], input=data, stdout=subprocess.PIPE, timeout=PATIENCE)
+    except subprocess.TimeoutExpired as late:
+        return late.stdout or b"", "no end"
+    return run.stdout, run.returncode
+
+
+# ---- The tally
+
+
+class Tally:
+    def __init__(self, seed):
+        self.seed = seed
+        self.passed = self.failed = 0
+
+    def count(self, case, fault, data=b""):
+        """Counts one case; a fault is told with its seed and its input kept."""
+        if fault is None:
+            self.passed += 1
+            return
+        self.failed += 1
+        if self.failed > SHOWN:
+            return
+        KEPT.mkdir(parents=True, exist_ok=True)
+        kept = KEPT / (case.replace(" ", "-") + ".in")
+        kept.write_bytes(data)
+        print(f"FAILED seed {self.seed}, {case}: {fault}")
+        print(f"       input kept as {kept.relative_to(ROOT)}")
+
+
+# ---- The parts of the rig
+
+
+def listing_fault(want, got, status, data):
+    """What is wrong with a listing, in words."""
+    if want == got:
+        return None if status == 0 else f"exit status {status}"
+    wanted, given = want.decode().split("\n"), got.decode(errors="replace").split("\n")
+    for place, (a, b) in enumerate(zip(wanted, given)):
+        if a != b:
+            count = data[0] if data else 0
+            at = 1 + 4 * count + model.EVENT.size * (place - 1)
+            event = told(data[at : at + model.EVENT.size]) if 0 < place and at < len(data) else "the end"
+            return f"line {place + 1} ({event}): expected '{a}', got '{b}'"
+    return f"expected {len(wanted) - 1} lines, got {len(given) - 1}, exit status {status}"
+
+
+def run_programs(prs, events, tally, answers):
+    """Lists of events through the program, together at least so many events."""
+    done = case = 0
+    longest = min(5000, max(50, events // 20))
+    while done < events:
+        case += 1
+        rng = random.Random(f"{tally.seed} program {case}")
+        data = generate.program_input(rng, longest)
+        want = model.program(data)
+        got, status = output_of(prs, data)
+        tally.count(f"program {case}", listing_fault(want, got, status, data), data)
+        lines = [line.split() for line in want.decode().splitlines()[1:]]
+        answers.update(int(words[1]) for words in lines if words[0].isdigit() or words[0] == "opening")
+        done += sum(words[0].isdigit() for words in lines)
+    return done, case
+
+
+def run_edges(probe, tally):
+    for place, edge in enumerate(edges(), 1):
+        bench = edge.bench.copy()
+        for data, answer in zip(edge.events, edge.answers):
+            request = event_request(bench, data, edge.says)
+            got = probe.ask(request)
+            fault = request.difference(got)
+            if fault is None and got[0] != answer:
+                fault = f"document 01 says {answer}, got {got[0]}"
+            if fault is not None:
+                fault = f"{edge.says}: {fault}"
+            tally.count(f"edge {place}", fault, request.bytes)
+            model.event(bench, data)
+
+
+def run_requests(probe, requests, tally, seen, alone):
+    """Drawn requests; notes the answers given and the rules that were broken alone."""
+    pool = generate.Pool(random.Random(f"{tally.seed} pool"))
+    rng = random.Random(f"{tally.seed} requests")
+    for case in range(1, requests + 1):
+        request = drawn_request(rng, pool)
+        fault = request.difference(probe.ask(request))
+        if fault is not None:
+            fault = f"{request.letter} ({request.says}): {fault}"
+        tally.count(f"request {case}", fault, request.bytes)
+        seen[request.letter, request.reply[0]] += 1
+        if request.letter in "EWC" and request.reply[0] == 2:
+            broken = list(model.faults(request.bench))
+            if len(set(broken)) == 1:
+                alone[broken[0]] += 1
+
+
+def run_ends(path, tally):
+    """Streams of several requests at once, whole and with a last one that is none or cut short."""
+    rng = random.Random(f"{tally.seed} ends")
+    pool = generate.Pool(rng)
+    for case in range(1, 21):
+        requests = [drawn_request(rng, pool) for _ in range(rng.choice([0, 1, 2, 12]))]
+        last = drawn_request(rng, pool).bytes
+        tails = [b"", b"X", b"e", b"\0", last[: rng.randrange(1, len(last))], last[:-1]]
+        card = card_request(*generate.card_input(rng, pool.bench(rng)[0])).bytes
+        for kind in (0, 5, 7, 255):
+            tails.append(card[: 2 + RECORD_SIZE] + bytes([kind]) + card[3 + RECORD_SIZE :])
+        tail = tails[case % len(tails)]
+        data = b"".join(request.bytes for request in requests) + tail
+        want = b"".join(request.reply for request in requests)
+        got, status = output_of(path, data)
+        fault = None
+        if got != want:
+            fault = f"{len(requests)} requests and a tail of {len(tail)} bytes: "
+            fault += f"expected {len(want)} bytes, got {len(got)}"
+        elif status == "no end" or status < 0:
+            fault = f"a tail of {len(tail)} bytes: ended with {status}"
+        tally.count(f"end {case}", fault, data)
+
+
+# Every answer number that each entry can give.
+ANSWERS = {
+    "E": range(0, 16),
+    "O": [0, 20, 21],
+    "R": [0, 2, 16, 17, 18],
+    "W": [0, 2, 19],
+    "C": [0, 2],
+    "P": [0, 2, 4, 6, 7, 8, 9, 10, 11, 12, 13, 14],
+}
+
+# Every rule of a table, in the model's words.
+RULES = [
+    "1 to 32 purses",
+    "at most 256 messages",
+    "at most 256 archive entries",
+    "balance ceiling",
+    "next at least 1",
+    "status 0 to 3",
+    "at most 8 log entries",
+    "log entry names two purses and a legal amount",
+    "log entry names its own purse",
+    "log entry own number below next",
+    "unused log places zero",
+    "idle details zero",
+    "running details name two purses and a legal amount",
+    "role of the status",
+    "running details own number below next",
+    "busy purse at most 7 entries",
+    "epr amount at most balance",
+    "epv balance plus amount at most ceiling",
+    "same details twice in a purse",
+    "message kind 1 to 3",
+    "message names two purses and a legal amount",
+    "message payee's number below next",
+    "value or acknowledge payer's number below next",
+    "value or acknowledge for a payer in epr",
+    "acknowledge for a payee in epv",
+    "archive entry logged by a purse of the table",
+    "archive entry names two purses and a legal amount",
+    "archive entry names its own purse",
+    "archive entry own number below next",
+    "no two messages equal",
+    "same details twice in the archive",
+    "same details in log and archive",
+    "same details running and in the archive",
+    "records past the count zero",
+    "unused message places zero",
+    "unused archive places zero",
+]
+
+
+def check_reach(tally, seen, alone):
+    """The rig's own reach: every answer was given and every rule was broken alone."""
+    for letter, numbers in ANSWERS.items():
+        missed = [number for number in numbers if not seen[letter, number]]
+        fault = f"no request {letter} was drawn with the answers {missed}" if missed else None
+        tally.count(f"reach {letter}", fault)
+    missed = [rule for rule in RULES if not alone[rule]]
+    fault = f"never broken alone: {missed}" if missed else None
+    tally.count("reach rules", fault)
+    unknown = sorted(set(alone) - set(RULES))
+    tally.count("reach names", f"rules not listed: {unknown}" if unknown else None)
+
+
+def main():
+    options = argparse.ArgumentParser(description=__doc__.splitlines()[0])
+    options.add_argument("--seed", default="1", help="another seed, other cases")
+    options.add_argument("--events", type=int, default=300_000, help="events through the program")
+    options.add_argument("--requests", type=int, default=40_000, help="requests to the probe")
+    options.add_argument("--short", action="store_true", help="fewer of both")
+    options.add_argument("--prs", default=PRS, help="the bench program")
+    options.add_argument("--probe", default=PROBE, help="the probe")
+    asked = options.parse_args()
+    if asked.short:
+        asked.events, asked.requests = 60_000, 10_000
+    signal.signal(signal.SIGALRM, out_of_time)
+    tally = Tally(asked.seed)
+    answers, seen, alone = Counter(), Counter(), Counter()
+    print(f"seed {asked.seed}")
+    probe = Probe(asked.probe)
+    run_edges(probe, tally)
+    run_requests(probe, asked.requests, tally, seen, alone)
+    left, status = probe.end()
+    ended = f"wrote {len(left)} bytes more and ended with {status}" if left or status != 0 else None
+    tally.count("end of the requests", ended)
+    run_ends(asked.probe, tally)
+    print(f"{asked.requests} requests to the probe; rules broken alone:")
+    for rule, count in sorted(alone.items()):
+        print(f"  {count:6} {rule}")
+    done, lists = run_programs(asked.prs, asked.events, tally, answers)
+    print(f"{done} events in {lists} inputs through the program; answers:")
+    print("  " + ", ".join(f"{answer}: {count}" for answer, count in sorted(answers.items())))
+    check_reach(tally, seen, alone)
+    finish(tally.passed, tally.failed)
+
+
+if __name__ == "__main__":
+    main()
