@@ -371,6 +371,7 @@ class Pool:
 
     def __init__(self, rng):
         self.walks = [self.begun(rng, mood) for mood in MOODS for _ in range(3)]
+        self.built = [built(rng) for _ in range(30)]
 
     def begun(self, rng, mood):
         bench = opened(rng, rng.choice([2, 3, 4, 32]))
@@ -380,7 +381,10 @@ class Pool:
     def bench(self, rng):
         """A bench of the caller's own and where it comes from, in words."""
         if rng.random() < 0.4:
-            return built(rng), "built"
+            place = rng.randrange(len(self.built))
+            if rng.random() < 0.1:
+                self.built[place] = built(rng)
+            return self.built[place].copy(), "built"
         place = rng.randrange(len(self.walks))
         mood, bench = self.walks[place]
         if rng.random() < 0.02:
@@ -431,7 +435,7 @@ def damaged_purse(rng, purse, names):
         details, says = damaged_details(rng, purse.details, names)
         return purse._replace(details=details), "running " + says
     log = list(purse.log)
-    place = rng.randrange(LOG_PLACES)
+    place = rng.randrange(min(LOG_PLACES, purse.logged + 1))
     if part == "log":
         log[place], says = damaged_details(rng, log[place], names)
         return purse._replace(log=tuple(log)), f"log place {place} {says}"
@@ -498,6 +502,18 @@ def append_entry(rng, bench):
     return f"archive entry appended for what purse {name} holds"
 
 
+def foreign_entry(rng, bench):
+    """A log entry of one purse in another's log, as its last entry."""
+    logged = [name for name in range(bench.count) if bench.table[name].logged in range(1, LOG_PLACES)]
+    if not logged or bench.count == 1:
+        return None
+    name, other = rng.choice(logged), rng.randrange(bench.count)
+    purse, count = bench.table[name], bench.table[name].logged
+    entry = rng.choice([*bench.table[other].log[:1], purse.log[0]._replace(payer=other, payee=other ^ 1)])
+    bench.table[name] = purse._replace(log=purse.log[: count - 1] + (entry,) + purse.log[count:])
+    return f"last log entry of purse {name} made one of purse {other}"
+
+
 def unused_place(rng, bench):
     """Something in a place that no count covers."""
     part = rng.choice(["purse", "message", "entry", "log"])
@@ -534,7 +550,7 @@ def damaged_counts(rng, bench):
             ("archive_count", [0, 1, 255, 256, 257, 65535, bench.archive_count + 1]),
         ]
     )
-    to = rng.choice(edges)
+    to = rng.choice(edges) % (256 if part == "count" else 65536)
     setattr(bench, part, to)
     return f"{part.replace('_', ' ')} set to {to}"
 
@@ -546,7 +562,7 @@ def damage(rng, bench):
     if part == "counts":
         return damaged_counts(rng, bench)
     if part == "append":
-        says = rng.choice([append_message, append_entry])(rng, bench)
+        says = rng.choice([append_message, append_entry, foreign_entry])(rng, bench)
     elif part == "unused":
         says = unused_place(rng, bench)
     elif part == "messages":
@@ -563,7 +579,8 @@ def damage(rng, bench):
             return f"busy purse {name} " + ("given eight log entries" if full else "on the other side")
     if says is not None:
         return says
-    name = rng.choice([0, bench.count - 1, rng.randrange(bench.count)])
+    telling = [n for n in range(bench.count) if bench.table[n].logged or bench.table[n].status != IDLE]
+    name = rng.choice([0, bench.count - 1, rng.randrange(bench.count)] + telling)
     bench.table[name], says = damaged_purse(rng, bench.table[name], bench.count)
     return f"purse {name} {says}"
 

@@ -93,9 +93,7 @@ def reply_layout(letter, bench):
 
 
 def difference(want, got, layout):
-    """The first difference of two replies, in words; None where they are equal."""
-    if want == got:
-        return None
+    """The first difference of two replies that are not equal, in words."""
     at = next((i for i, (a, b) in enumerate(zip(want, got)) if a != b), min(len(want), len(got)))
     if at == len(got):
         return f"the reply ends after {len(got)} of {len(want)} bytes"
@@ -150,6 +148,9 @@ class Request:
         self.reply = reply
 
     def difference(self, got):
+        """What differs in a reply, in words; None where nothing does."""
+        if got == self.reply:
+            return None
         return difference(self.reply, got, reply_layout(self.letter, self.bench))
 
 
@@ -306,8 +307,8 @@ def output_of(path, data):
 
 
 class Tally:
-    def __init__(self, seed):
-        self.seed = seed
+    def __init__(self, seed, stop):
+        self.seed, self.stop = seed, stop
         self.passed = self.failed = 0
 
     def count(self, case, fault, data=b""):
@@ -323,6 +324,8 @@ class Tally:
         kept.write_bytes(data)
         print(f"FAILED seed {self.seed}, {case}: {fault}")
         print(f"       input kept as {kept.relative_to(ROOT)}")
+        if self.stop:
+            finish(self.passed, self.failed)
 
 
 # ---- The parts of the rig
@@ -485,13 +488,14 @@ def main():
     options.add_argument("--events", type=int, default=300_000, help="events through the program")
     options.add_argument("--requests", type=int, default=40_000, help="requests to the probe")
     options.add_argument("--short", action="store_true", help="fewer of both")
+    options.add_argument("--stop", action="store_true", help="stop at the first failure")
     options.add_argument("--prs", default=PRS, help="the bench program")
     options.add_argument("--probe", default=PROBE, help="the probe")
     asked = options.parse_args()
     if asked.short:
         asked.events, asked.requests = 60_000, 10_000
     signal.signal(signal.SIGALRM, out_of_time)
-    tally = Tally(asked.seed)
+    tally = Tally(asked.seed, asked.stop)
     answers, seen, alone = Counter(), Counter(), Counter()
     print(f"seed {asked.seed}")
     probe = Probe(asked.probe)
