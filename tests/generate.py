@@ -417,9 +417,10 @@ def damaged_purse(rng, purse, names):
     part = rng.choice(["balance", "next", "status", "logged", "details", "log", "twice", "money"])
     if part == "money" and purse.status in (EPR, EPV):
         balance = purse.details.amount - 1 if purse.status == EPR else CEILING + 1 - purse.details.amount
+        balance %= 2**32
         return purse._replace(balance=balance), f"balance set to {balance} beside its amount"
     if part in ("balance", "money"):
-        to = rng.choice(AMOUNTS + [purse.balance + 1, max(0, purse.balance - 1)])
+        to = rng.choice(AMOUNTS + [purse.balance + 1, purse.balance - 1]) % 2**32
         return purse._replace(balance=to), f"balance set to {to}"
     if part == "next":
         numbers = [purse.details.payer_number, purse.details.payee_number]
@@ -449,7 +450,7 @@ def full_log(purse, name, names):
     entries = []
     for number in range(1, LOG_PLACES + 1):
         other = (name + 1) % names
-        entries.append(Details(name, min(number, purse.next - 1), other, number, 1))
+        entries.append(Details(name, min(number, max(0, purse.next - 1)), other, number, 1))
     return purse._replace(log=tuple(entries), logged=LOG_PLACES)
 
 
