@@ -21,7 +21,6 @@ from model import (
     LOG_PLACES,
     LOSE,
     NO_DETAILS,
-    NO_ENTRY,
     NO_MESSAGE,
     NO_PURSE,
     REQUEST,

@@ -29,7 +29,7 @@ from common import PROBE, PRS, ROOT, finish
 from edges import edges
 import generate
 import model
-from model import DETAILS, ENTRIES, LOG_PLACES, MARKED, MESSAGES, PURSES, RECORD_SIZE
+from model import ENTRIES, LOG_PLACES, MESSAGES, PURSES, RECORD_SIZE
 
 KEPT = ROOT / "target" / "rig"
 PATIENCE = 30  # seconds for one reply or listing
@@ -200,6 +200,15 @@ def card_request(told_to_card, says):
     return Request("P", None, body, reply, f"{about}, {message}, {says}")
 
 
+def counts_kept(bench):
+    """Whether purse, message and archive count are in their range."""
+    return (
+        1 <= bench.count <= PURSES
+        and bench.message_count <= MESSAGES
+        and bench.archive_count <= ENTRIES
+    )
+
+
 def write_size(rng, bench):
     """A buffer length about the image's own."""
     needed = model.image_length(bench.count, bench.message_count, bench.archive_count)
@@ -216,7 +225,7 @@ def drawn_request(rng, pool):
     harm = rng.random()
     if harm < 0.5:
         says += ", " + generate.damage(rng, bench)
-        if harm < 0.05 and model.PURSES >= bench.count >= 1:
+        if harm < 0.05 and counts_kept(bench):
             says += ", " + generate.damage(rng, bench)
     letter = rng.choices("EORWCP", [40, 5, 20, 15, 10, 10])[0]
     if letter == "E":
@@ -239,7 +248,7 @@ def drawn_request(rng, pool):
 
 def stored_image(rng, bench):
     """An image of the bench, as it is or damaged once more; of a new one where counts are wrong."""
-    if bench.count > PURSES or bench.message_count > MESSAGES or bench.archive_count > ENTRIES:
+    if not counts_kept(bench):
         bench = generate.built(rng)
     if model.well_formed(bench) or rng.random() < 0.2:
         return generate.image_input(rng, bench)
