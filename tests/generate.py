@@ -191,6 +191,17 @@ def event_of(rng, bench):
 # ---- Program inputs
 
 
+def opening_bytes(bench):
+    drawn = [purse.balance for purse in bench.table[: bench.count]]
+    return struct.pack(f">B{bench.count}I", bench.count, *drawn)
+
+
+def long_input(rng, length):
+    """One long list of events, mostly accepted."""
+    bench = opened(rng, 32)
+    return opening_bytes(bench) + b"".join(walk(rng, bench, "rough", length))
+
+
 def program_input(rng, longest):
     """Standard input for the bench program."""
     if rng.random() < 0.1:
@@ -198,9 +209,7 @@ def program_input(rng, longest):
         data = struct.pack(f">B{len(drawn)}I", len(drawn), *drawn) + rng.randbytes(rng.choice([0, 12, 30]))
         return data[: rng.choice([len(data), rng.randint(0, len(data))])]
     bench = opened(rng)
-    data = struct.pack(
-        f">B{bench.count}I", bench.count, *(purse.balance for purse in bench.table[: bench.count])
-    )
+    data = opening_bytes(bench)
     made = []
     while len(made) < longest and rng.random() < 0.8:
         length = rng.randint(0, rng.choice([20, 300, longest]))

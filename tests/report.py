@@ -225,7 +225,7 @@ def drawn(rng):
 def main():
     options = argparse.ArgumentParser(description=__doc__.splitlines()[0])
     options.add_argument("--seed", default="1")
-    options.add_argument("--lists", type=int, default=200)
+    options.add_argument("--lists", type=int, default=100)
     asked = options.parse_args()
     if shutil.which("maude") is None:
         print("skipped: maude is not installed")
