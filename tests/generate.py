@@ -140,9 +140,10 @@ def logging(rng, bench):
 
 def odd(rng, bench):
     """An event with one field changed, or any bytes."""
-    data = bytearray(rng.choice([honest, forged, replay, broken, collected, lost])(rng, bench) or bytes(12))
     if rng.random() < 0.1:
         return rng.randbytes(12)
+    step = rng.choice([honest, forged, replay, broken, collected, lost])
+    data = bytearray(step(rng, bench) or bytes(12))
     data[rng.choice([0, 0, 1, 2, 3, 4, 7, 8, 11])] = rng.choice([0, 1, 6, 7, 8, 32, 128, 255])
     return bytes(data)
 
@@ -150,7 +151,7 @@ def odd(rng, bench):
 # Moods of a walk: how often each kind of step is taken.
 MOODS = {
     "calm": [(honest, 90), (replay, 3), (broken, 1), (collected, 1), (lost, 3), (odd, 2)],
-    "rough": [(honest, 50), (replay, 10), (broken, 12), (collected, 8), (lost, 10), (forged, 8), (odd, 2)],
+    "rough": [(honest, 50), (replay, 10), (broken, 12), (collected, 8), (lost, 10), (forged, 10)],
     "forging": [(honest, 20), (forged, 40), (replay, 10), (broken, 15), (collected, 10), (lost, 5)],
     "filling": [(honest, 75), (logging, 15), (replay, 4), (collected, 3), (forged, 3)],
     "logging": [(logging, 80), (honest, 12), (forged, 5), (collected, 3)],
@@ -182,10 +183,11 @@ def walk(rng, bench, mood, length):
 
 
 def event_of(rng, bench):
-    """One event in any mood, now and then of another length."""
-    if rng.random() < 0.03:
-        return rng.randbytes(rng.choice([0, 1, 11, 13, 24, 255]))
-    return walk_event(rng, bench, rng.choice(list(MOODS)))
+    """One event in any mood, now and then cut or with bytes behind it."""
+    data = walk_event(rng, bench, rng.choice(list(MOODS)))
+    if rng.random() < 0.05:
+        return (data + data + bytes(255))[: rng.choice([0, 1, 11, 13, 24, 255])]
+    return data
 
 
 # ---- Program inputs
@@ -206,7 +208,8 @@ def program_input(rng, longest):
     """Standard input for the bench program."""
     if rng.random() < 0.1:
         drawn = bad_balances(rng)
-        data = struct.pack(f">B{len(drawn)}I", len(drawn), *drawn) + rng.randbytes(rng.choice([0, 12, 30]))
+        data = struct.pack(f">B{len(drawn)}I", len(drawn), *drawn)
+        data += rng.randbytes(rng.choice([0, 12, 30]))
         return data[: rng.choice([len(data), rng.randint(0, len(data))])]
     bench = opened(rng)
     data = opening_bytes(bench)
@@ -296,8 +299,9 @@ def built(rng):
                 last = changed_field(rng, last, bench.count)
             else:
                 last = any_details(rng, bench, name)
-            good = last is not None and not list(model.logged_faults(name, purse, last, bench.count, ""))
-            if good and (name, last) not in seen:
+            if last is None or list(model.logged_faults(name, purse, last, bench.count, "")):
+                continue
+            if (name, last) not in seen:
                 seen.add((name, last))
                 entries.append(last)
         log = tuple(entries) + (NO_DETAILS,) * (LOG_PLACES - len(entries))
@@ -424,15 +428,16 @@ def damaged_purse(rng, purse, names):
     """One field of a record at an edge, or one thing copied over another."""
     part = rng.choice(["balance", "next", "status", "logged", "details", "log", "twice", "money"])
     if part == "money" and purse.status in (EPR, EPV):
-        balance = purse.details.amount - 1 if purse.status == EPR else CEILING + 1 - purse.details.amount
-        balance %= 2**32
+        amount = purse.details.amount
+        balance = (amount - 1 if purse.status == EPR else CEILING + 1 - amount) % 2**32
         return purse._replace(balance=balance), f"balance set to {balance} beside its amount"
     if part in ("balance", "money"):
         to = rng.choice(AMOUNTS + [purse.balance + 1, purse.balance - 1]) % 2**32
         return purse._replace(balance=to), f"balance set to {to}"
     if part == "next":
-        numbers = [purse.details.payer_number, purse.details.payee_number]
-        to = rng.choice(NUMBERS + numbers + [d.payer_number for d in purse.log] + [d.payee_number for d in purse.log])
+        held = [purse.details, *purse.log]
+        numbers = [number for d in held for number in (d.payer_number, d.payee_number)]
+        to = rng.choice(NUMBERS + numbers)
         return purse._replace(next=to), f"next set to {to}"
     if part == "status":
         to = rng.choice([0, 1, 2, 3, 4, 255])
@@ -462,7 +467,7 @@ def full_log(purse, name, names):
     return purse._replace(log=tuple(entries), logged=LOG_PLACES)
 
 
-def turned(purse, names):
+def turned(purse):
     """The purse's running details with the other side as its own."""
     d = purse.details
     other = Details(d.payee, d.payee_number, d.payer, d.payer_number, d.amount)
@@ -513,12 +518,13 @@ def append_entry(rng, bench):
 
 def foreign_entry(rng, bench):
     """A log entry of one purse in another's log, as its last entry."""
-    logged = [name for name in range(bench.count) if bench.table[name].logged in range(1, LOG_PLACES)]
+    logged = [name for name in range(bench.count) if 1 <= bench.table[name].logged <= LOG_PLACES]
     if not logged or bench.count == 1:
         return None
     name, other = rng.choice(logged), rng.randrange(bench.count)
     purse, count = bench.table[name], bench.table[name].logged
-    entry = rng.choice([*bench.table[other].log[:1], purse.log[0]._replace(payer=other, payee=other ^ 1)])
+    near = purse.log[0]._replace(payer=other, payee=other ^ 1)
+    entry = rng.choice([bench.table[other].log[0], near])
     bench.table[name] = purse._replace(log=purse.log[: count - 1] + (entry,) + purse.log[count:])
     return f"last log entry of purse {name} made one of purse {other}"
 
@@ -529,7 +535,8 @@ def unused_place(rng, bench):
     if part == "purse" and bench.count < model.PURSES:
         place = rng.randrange(bench.count, model.PURSES)
         field = rng.choice(["balance", "next", "status", "logged", "details", "log"])
-        to = {"details": Details(0, 0, 0, 0, 1), "log": NO_PURSE.log[1:] + (Details(1, 0, 0, 0, 0),)}.get(field, 1)
+        one = Details(0, 0, 0, 0, 1)
+        to = {"details": one, "log": NO_PURSE.log[1:] + (one,)}.get(field, 1)
         bench.table[place] = NO_PURSE._replace(**{field: to})
         return f"unused record {place} {field} not zero"
     details = NO_DETAILS._replace(**{rng.choice(Details._fields): rng.choice([1, 255])})
@@ -566,7 +573,8 @@ def damaged_counts(rng, bench):
 
 def damage(rng, bench):
     """One change to the bench, in place; the words for it. It may keep the rules."""
-    part = rng.choice(["counts", "purse", "purse", "purse", "busy", "messages", "archive", "append", "unused"])
+    parts = ["counts", "purse", "purse", "purse", "busy", "messages", "archive", "append", "unused"]
+    part = rng.choice(parts)
     says = None
     if part == "counts":
         return damaged_counts(rng, bench)
@@ -582,14 +590,16 @@ def damage(rng, bench):
         busy = [name for name in range(bench.count) if bench.table[name].status != IDLE]
         if busy:
             name = rng.choice(busy)
-            purse = bench.table[name]
-            full = rng.random() < 0.5
-            bench.table[name] = full_log(purse, name, bench.count) if full else turned(purse, bench.count)
-            return f"busy purse {name} " + ("given eight log entries" if full else "on the other side")
+            if rng.random() < 0.5:
+                bench.table[name] = full_log(bench.table[name], name, bench.count)
+                return f"busy purse {name} given eight log entries"
+            bench.table[name] = turned(bench.table[name])
+            return f"busy purse {name} put on the other side"
     if says is not None:
         return says
-    telling = [n for n in range(bench.count) if bench.table[n].logged or bench.table[n].status != IDLE]
-    name = rng.choice([0, bench.count - 1, rng.randrange(bench.count)] + telling)
+    names = range(bench.count)
+    telling = [name for name in names if bench.table[name].logged or bench.table[name].status]
+    name = rng.choice([0, bench.count - 1, rng.choice(names)] + telling)
     bench.table[name], says = damaged_purse(rng, bench.table[name], bench.count)
     return f"purse {name} {says}"
 
@@ -603,8 +613,9 @@ def image_input(rng, bench):
     kinds = ["none", "none", "length", "mark", "version", "counts", "bytes", "two", "head", "any"]
     kind = rng.choice(kinds)
     if kind == "length":
-        size = rng.choice([0, 1, 9, 10, 11, len(data) - 1, len(data) + 1, len(data) + 15, rng.randint(0, len(data))])
-        data = (data + rng.randbytes(20))[:size]
+        near = [len(data) - 1, len(data) + 1, len(data) + 15, rng.randint(0, len(data))]
+        size = rng.choice([0, 1, 9, 10, 11, 65535] + near * 3)
+        data = (data + rng.randbytes(max(0, size - len(data))))[:size]
     elif kind == "mark":
         data[rng.randrange(3)] ^= 1 << rng.randrange(8)
     elif kind == "version":

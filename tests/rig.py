@@ -7,10 +7,10 @@ compares every byte that they give.
     rig.py --seed 7 --events 1000000 --requests 100000
     rig.py --prs PATH --probe PATH  other programs
 
-Parts: the edges of document 01; lists of events through the program (accepted and refused ones,
-replays, losses, full logs, archive and ether, bad openings, cut events); requests to the probe on
-right and damaged benches, images and records; and the ends of the probe's stream. The test vectors
-are run by vectors.py and examples.sh.
+Parts: the edges of document 01; each field of a state and of a record at each of its edges; requests
+to the probe on right and damaged benches, images and records; the ends of the probe's stream; lists
+of events through the program (accepted and refused ones, replays, losses, full logs, archive and
+ether, bad openings, cut events). The test vectors are run by vectors.py and examples.sh.
 
 A failure says the seed, the case and the first difference, and keeps the input under target/rig.
 The last line is 'N passed, M failed'; the exit status is 1 on any failure.
@@ -26,7 +26,7 @@ import time
 from bisect import bisect_right
 from collections import Counter
 
-from common import PROBE, PRS, ROOT, finish
+from common import PROBE, PRS, ROOT, finish, words
 from edges import edges
 import generate
 import model
@@ -72,7 +72,8 @@ def state_layout():
 
 
 def image_layout(bench):
-    fields = [("mark", 3), ("version", 2), ("purse count", 1), ("message count", 2), ("archive count", 2)]
+    fields = [("mark", 3), ("version", 2), ("purse count", 1)]
+    fields += [("message count", 2), ("archive count", 2)]
     for name in range(bench.count):
         fields += record_layout(f"purse {name}")
     for place in range(bench.message_count):
@@ -87,7 +88,8 @@ def reply_layout(letter, bench):
     if letter in "EOR":
         return answer + state_layout()
     if letter == "W":
-        return answer + [("image length", 2)] + (image_layout(bench) if model.well_formed(bench) else [])
+        image = image_layout(bench) if model.well_formed(bench) else []
+        return answer + [("image length", 2)] + image
     if letter == "C":
         return answer + [("claims", 4)]
     handed = marked_layout("message handed out", "kind") + details_layout("details handed out")
@@ -121,8 +123,8 @@ def told(data):
     if len(data) != model.EVENT.size:
         return f"event of {len(data)} bytes {data.hex()}"
     kind, purse, counterparty, spare, number, amount = model.EVENT.unpack(data)
-    fields = f"purse {purse} counterparty {counterparty} spare {spare} number {number} amount {amount}"
-    return f"{KINDS.get(kind, f'kind {kind}')} {fields}"
+    fields = f"purse {purse} counterparty {counterparty} spare {spare}"
+    return f"{KINDS.get(kind, f'kind {kind}')} {fields} number {number} amount {amount}"
 
 
 # ---- States and requests as bytes
@@ -167,14 +169,16 @@ def opening_request(bench, balances, says):
     after = bench.copy()
     answer = model.opening(after, balances)
     body = state_bytes(bench) + struct.pack(f">B{len(balances)}I", len(balances), *balances)
-    return Request("O", bench, body, bytes([answer]) + state_bytes(after), f"balances {balances}, {says}")
+    reply = bytes([answer]) + state_bytes(after)
+    return Request("O", bench, body, reply, f"balances {balances}, {says}")
 
 
 def read_request(bench, image, says):
     after = bench.copy()
     answer = model.read(after, image)
     body = state_bytes(bench) + struct.pack(">H", len(image)) + image
-    return Request("R", bench, body, bytes([answer]) + state_bytes(after), f"{len(image)} bytes, {says}")
+    reply = bytes([answer]) + state_bytes(after)
+    return Request("R", bench, body, reply, f"{len(image)} bytes, {says}")
 
 
 def write_request(bench, size, says):
@@ -198,8 +202,8 @@ def card_request(told_to_card, says):
     body += struct.pack(">BBII", kind, counterparty, number, amount) + model.marked_bytes([message])
     reply = bytes([answer]) + model.record_bytes(after)
     reply += model.marked_bytes([sent]) + model.details_bytes(collected)
-    about = f"own name {name}, {KINDS[kind]}, counterparty {counterparty}, number {number}, amount {amount}"
-    return Request("P", None, body, reply, f"{about}, {message}, {says}")
+    about = f"own name {name}, {KINDS[kind]}, counterparty {counterparty}, number {number}"
+    return Request("P", None, body, reply, f"{about}, amount {amount}, {message}, {says}")
 
 
 def counts_kept(bench):
@@ -375,7 +379,8 @@ def listing_fault(want, got, status, data):
         if a != b:
             count = data[0] if data else 0
             at = 1 + 4 * count + model.EVENT.size * (place - 1)
-            event = told(data[at : at + model.EVENT.size]) if 0 < place and at < len(data) else "the end"
+            one = data[at : at + model.EVENT.size]
+            event = told(one) if 0 < place and one else "the end"
             return f"line {place + 1} ({event}): expected '{a}', got '{b}'"
     return f"expected {len(wanted) - 1} lines, got {len(given) - 1}, exit status {status}"
 
@@ -388,14 +393,18 @@ def run_programs(prs, events, tally, answers):
     while done < events:
         case += 1
         rng = random.Random(f"{tally.seed} program {case}")
-        data = generate.long_input(rng, events // 4) if case == 1 else generate.program_input(rng, longest)
+        if case == 1:
+            data = generate.long_input(rng, events // 4)
+        else:
+            data = generate.program_input(rng, longest)
         want = model.program(data)
         in_pieces = case % 10 == 0
         got, status = output_in_pieces(prs, data, rng) if in_pieces else output_of(prs, data)
         tally.count(f"program {case}", listing_fault(want, got, status, data), data)
         lines = [line.split() for line in want.decode().splitlines()[1:]]
-        answers.update(int(words[1]) for words in lines if words[0].isdigit() or words[0] == "opening")
-        done += sum(words[0].isdigit() for words in lines)
+        numbered = [int(line[1]) for line in lines if line[0].isdigit()]
+        answers.update(numbered or [int(line[1]) for line in lines if line[0] == "opening"])
+        done += len(numbered)
     return done, case
 
 
@@ -412,6 +421,112 @@ def run_edges(probe, tally):
                 fault = f"{edge.says}: {fault}"
             tally.count(f"edge {place}", fault, request.bytes)
             model.event(bench, data)
+
+
+def state_of(data):
+    """The bench that these bytes of a state say."""
+    bench = model.Bench()
+    bench.count = data[0]
+    messages_at = 1 + PURSES * RECORD_SIZE
+    archive_at = messages_at + 2 + MESSAGES * model.MARKED.size
+    bench.table = model.records_of(data[1:messages_at])
+    bench.message_count = int.from_bytes(data[messages_at : messages_at + 2], "big")
+    bench.messages = model.marked_of(data[messages_at + 2 : archive_at], model.Message)
+    bench.archive_count = int.from_bytes(data[archive_at : archive_at + 2], "big")
+    bench.archive = model.marked_of(data[archive_at + 2 :], model.Entry)
+    return bench
+
+
+def changed_at_edges(data, layout, chosen):
+    """The bytes with each chosen field in turn at 0, 1, its limits, next to them and the largest,
+    and next to what it was; words for the change."""
+    at = 0
+    for name, size in layout:
+        if chosen(name):
+            now = int.from_bytes(data[at : at + size], "big")
+            near = [0, 1, now - 1, now + 1, 256**size - 2, 256**size - 1]
+            limits = {
+                1: [2, 3, 4, 7, 8, 9, 31, 32, 33],
+                2: [255, 256, 257],
+                4: [2**31, model.CEILING - 1, model.CEILING, model.CEILING + 1],
+            }[size]
+            for to in sorted({number % 256**size for number in near + limits} - {now}):
+                yield data[:at] + to.to_bytes(size, "big") + data[at + size :], f"{name} set to {to}"
+        at += size
+
+
+SWEPT = """
+start-from 1 to 4 number 1 amount 7
+start-to 4 from 1 number 1 amount 7
+deliver 9 to 1
+deliver 10 to 4
+abort 1
+start-from 3 to 2 number 1 amount 7
+start-to 2 from 3 number 1 amount 7
+deliver 12 to 3
+abort 3
+abort 2
+collect 3
+collect 2
+start-from 1 to 2 number 2 amount 293
+start-to 2 from 1 number 2 amount 1000
+start-from 3 to 4 number 2 amount 7
+start-to 4 from 3 number 2 amount 7
+deliver 15 to 3
+abort 4
+"""
+
+
+def swept_bench():
+    """Six purses: idle with a full log; epr, its whole balance at stake; epv, filled to the ceiling;
+    epa; idle; new. Messages and entries of each kind, a pair among the archived."""
+    bench = model.Bench()
+    model.opening(bench, [1000, 300, 4_999_000, 1000, 0, 5])
+    logged = "start-to 0 from 4 number 9 amount 2\nabort 0\n"
+    text = logged + "collect 0\n" + logged * 8 + SWEPT
+    if any(model.event(bench, data) for data in model.cut(words.text_bytes(text))):
+        raise ValueError("an event of the swept bench is refused")
+    return bench
+
+
+def run_sweep(probe, tally):
+    """Each field of a state and of a record at each of its edges, through every entry in turn."""
+    bench = swept_bench()
+    last_message, last_entry = bench.message_count - 1, bench.archive_count - 1
+    parts = [f"purse {name} " for name in range(bench.count + 1)]
+    for place in {0, last_message, last_message + 1, MESSAGES - 1}:
+        parts.append(f"message {place} ")
+    for place in {0, last_entry, last_entry + 1, ENTRIES - 1}:
+        parts.append(f"archive entry {place} ")
+    parts += ["purse count", "message count", "archive count"]
+    changes = changed_at_edges(
+        state_bytes(bench), state_layout(), lambda name: name.startswith(tuple(parts))
+    )
+    for case, (data, says) in enumerate(changes, 1):
+        request = swept_request(bench, state_of(data), "ECWR"[case % 4], says)
+        fault = request.difference(probe.ask(request))
+        tally.count(f"sweep {case}", fault and f"{request.letter} ({says}): {fault}", request.bytes)
+    for name in range(bench.count):
+        purse = bench.table[name]
+        expected = model.Message(generate.EXPECTED.get(purse.status, 1), purse.details)
+        changes = changed_at_edges(model.record_bytes(purse), record_layout("record"), bool)
+        for case, (data, says) in enumerate(changes, 1):
+            kind = [1, 2, 3, 4, 6][case % 5]
+            record = model.record_of(data)
+            request = card_request((name, record, kind, 5 - name, 1, 1, expected), says)
+            fault = request.difference(probe.ask(request))
+            fault = fault and f"{request.says}: {fault}"
+            tally.count(f"card sweep {name} {case}", fault, request.bytes)
+
+
+def swept_request(before, bench, letter, says):
+    if letter == "R" and counts_kept(bench):
+        return read_request(before, model.image(bench), says)
+    if letter == "W":
+        return write_request(bench, 12042, says)
+    if letter == "C":
+        return claims_request(bench, says)
+    return event_request(bench, words.event_bytes(model.ABORT), says)
 
 
 def run_requests(probe, requests, tally, seen, alone):
@@ -538,6 +653,7 @@ def main():
     print(f"seed {asked.seed}")
     probe = Probe(asked.probe)
     run_edges(probe, tally)
+    run_sweep(probe, tally)
     run_requests(probe, asked.requests, tally, seen, alone)
     left, status = probe.end()
     ended = f"wrote {len(left)} bytes more and ended with {status}" if left or status != 0 else None
