@@ -21,10 +21,12 @@ import random
 import signal
 import struct
 import subprocess
+import sys
 import tempfile
 import time
 from bisect import bisect_right
 from collections import Counter
+from pathlib import Path
 
 from common import PROBE, PRS, ROOT, finish, words
 from edges import edges
@@ -33,8 +35,8 @@ import model
 from model import ENTRIES, LOG_PLACES, MESSAGES, PURSES, RECORD_SIZE
 
 KEPT = ROOT / "target" / "rig"
-PATIENCE = 30  # seconds for one reply or listing
-SHOWN = 10  # failures told in full
+PATIENCE = 10  # seconds for one reply or listing
+ENOUGH = 25  # failures, after which the rig stops
 REACHING = 10_000  # so many requests must reach every answer and every rule
 
 # ---- Replies in words: the fields of a reply and where they stand
@@ -355,15 +357,13 @@ class Tally:
             self.passed += 1
             return
         self.failed += 1
-        if self.failed > SHOWN:
-            return
         print(f"FAILED seed {self.seed}, {case}: {fault}")
         if data is not None:
             KEPT.mkdir(parents=True, exist_ok=True)
             kept = KEPT / (case.replace(" ", "-") + ".in")
             kept.write_bytes(data)
             print(f"       input kept as {kept.relative_to(ROOT)}")
-        if self.stop:
+        if self.stop or self.failed == ENOUGH:
             finish(self.passed, self.failed)
 
 
@@ -647,6 +647,9 @@ def main():
     asked = options.parse_args()
     if asked.short:
         asked.events, asked.requests = 60_000, 10_000
+    for program in (asked.prs, asked.probe):
+        if not Path(program).is_file():
+            sys.exit(f"no program {program}")
     signal.signal(signal.SIGALRM, out_of_time)
     tally = Tally(asked.seed, asked.stop)
     answers, seen, alone = Counter(), Counter(), Counter()
