@@ -177,7 +177,7 @@ static void rest(Purse *purse) {
 
 /* The kind of the message to send goes to *sends, 0 for none. */
 static uint8_t take(Purse *purse, const Message *message, uint8_t *sends) {
-    static const uint8_t expected[] = {[IDLE] = 0, [EPR] = REQUEST, [EPV] = VALUE, [EPA] = ACKNOWLEDGE};
+    static const uint8_t expected[] = {[EPR] = REQUEST, [EPV] = VALUE, [EPA] = ACKNOWLEDGE};
     if (purse->status == IDLE || message->kind != expected[purse->status] ||
         !same(&message->details, &purse->details))
         return 13;
@@ -224,7 +224,8 @@ uint8_t card_step(Purse *purse, Name own, const CardEvent *event, CardHanded *ha
     case START_FROM:
         return start(purse, own, PURSES, true, event->counterparty, event->number, event->amount);
     case START_TO:
-        answer = start(purse, own, PURSES, false, event->counterparty, event->number, event->amount);
+        answer =
+            start(purse, own, PURSES, false, event->counterparty, event->number, event->amount);
         if (answer == 0)
             handed->sent = (Message){REQUEST, purse->details};
         return answer;

@@ -119,7 +119,7 @@ def logged_faults(name, purse, details, names, where):
 
 
 def purse_faults(name, purse, names):
-    """The rules about one purse alone that do not hold, in words; names run from 0 below `names`."""
+    """The rules about one purse alone that do not hold, in words; names are those below `names`."""
     if purse.balance > CEILING:
         yield "balance ceiling"
     if purse.next < 1:

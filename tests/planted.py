@@ -418,11 +418,9 @@ def found(name, old, new):
     place.mkdir(parents=True, exist_ok=True)
     (place / "plain.c").write_text(text.replace(old, new))
     for program in ("prs", "probe"):
-        subprocess.run(
-            [os.environ.get("CC", "cc"), "-std=c11", "-O2", "-w", "-I", PLAIN.parent, "-o", place / program]
-            + [ROOT / "tests" / "standin" / f"{program}.c", place / "plain.c"],
-            check=True,
-        )
+        sources = [ROOT / "tests" / "standin" / f"{program}.c", place / "plain.c"]
+        compiler = [os.environ.get("CC", "cc"), "-std=c11", "-O2", "-w", "-I", PLAIN.parent]
+        subprocess.run([*compiler, "-o", place / program, *sources], check=True)
     rig = [sys.executable, ROOT / "tests" / "rig.py", "--short", "--stop"]
     run = subprocess.run(
         rig + ["--prs", place / "prs", "--probe", place / "probe"],

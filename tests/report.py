@@ -8,7 +8,7 @@ compared after every event.
 Skipped with a line where maude is not installed. The last line is 'N passed, M failed'.
 
 What is compared: each purse's balance, status, details while busy, next number and log, and which
-requests, values and acknowledges stand. Differences between 000 and 01 that are allowed for, and how:
+requests, values and acknowledges stand. Differences between 000 and 01 that are allowed for:
 
  - 000 keeps the previous balance and an idle purse's details: not compared.
  - In 000 a start is a message: an honest start is said by startpay, any other is put into the ether
@@ -19,9 +19,9 @@ requests, values and acknowledges stand. Differences between 000 and 01 that are
    its log, oldest first.
  - 000's ether is a bag with duplicate: copies of a message count once, and lose drops them all.
    Delivering a message that stays is 01's replay; here copies are made by duplicate too.
- - 000 has no limits and takes amount 0: a start that 01 refuses by 4, 6 (no such purse), 7, 9, 10 or
-   12, and events refused by 3, 5, 14 or 15, are no steps there. Starts refused by 6 (itself), 8 and
-   11 and deliveries refused by 13 are taken as steps, which must change nothing.
+ - 000 has no limits and takes amount 0: a start that 01 refuses by 4, 6 (no such purse), 7, 9, 10
+   or 12, and events refused by 3, 5, 14 or 15, are no steps there. Starts refused by 6 (itself), 8
+   and 11 and deliveries refused by 13 are taken as steps, which must change nothing.
  - With 256 messages the sent one is dropped at once.
 """
 
@@ -62,7 +62,7 @@ class Replay:
             self.expected.append(self.seen())
 
     def numbers_used(self, bench, events):
-        """Document 01's number of each accepted start, and the report's: one more for each abort."""
+        """The report's number for each number that a start uses: one more for each abort before."""
         numbers, aborts = {}, [0] * bench.count
         for data in events:
             name = data[1] if len(data) == 12 else 0
@@ -110,7 +110,7 @@ class Replay:
             self.steps += [f"drop({told})"] * (1 + self.copies.pop(told, 0))
 
     def start(self, kind, name, other, number, amount, idle):
-        word, step = ("startfrom", "recstartfrom") if kind == START_FROM else ("startto", "recstartto")
+        word = "startfrom" if kind == START_FROM else "startto"
         theirs = self.number(other, number)
         said = f"{word}(p({other}), {amount}, {theirs})"
         honest = theirs == self.report_next[other] and name != other and idle[name] and idle[other]
@@ -122,7 +122,7 @@ class Replay:
         elif not self.starts_said[said]:
             self.steps.append(f"say({said})")
             self.starts_said[said] += 1
-        self.steps.append(f"{step}(p({name}), {said})")
+        self.steps.append(f"rec{word}(p({name}), {said})")
         self.steps.append(f"drop({said})")
         self.starts_said[said] -= 1
 

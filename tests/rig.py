@@ -7,10 +7,10 @@ compares every byte that they give.
     rig.py --seed 7 --events 1000000 --requests 100000
     rig.py --prs PATH --probe PATH  other programs
 
-Parts: the edges of document 01; each field of a state and of a record at each of its edges; requests
-to the probe on right and damaged benches, images and records; the ends of the probe's stream; lists
-of events through the program (accepted and refused ones, replays, losses, full logs, archive and
-ether, bad openings, cut events). The test vectors are run by vectors.py and examples.sh.
+Parts: the edges of document 01; each field of a state and of a record at each of its edges;
+requests to the probe on right and damaged benches, images and records; the ends of the probe's
+stream; lists of events through the program (accepted and refused ones, replays, losses, full logs,
+archive and ether, bad openings, cut events). The test vectors are run by vectors.py and examples.sh.
 
 A failure says the seed, the case and the first difference, and keeps the input under target/rig.
 The last line is 'N passed, M failed'; the exit status is 1 on any failure.
@@ -285,7 +285,7 @@ class Probe:
         self.running = subprocess.Popen([self.path], stdin=subprocess.PIPE, stdout=subprocess.PIPE)
 
     def ask(self, request):
-        """The reply, as long as the model's or shorter; the program is started anew where it fell."""
+        """The reply, no longer than the model's; the program is started anew after a wrong one."""
         got = b""
         signal.setitimer(signal.ITIMER_REAL, PATIENCE)
         try:
@@ -451,7 +451,8 @@ def changed_at_edges(data, layout, chosen):
                 4: [2**31, model.CEILING - 1, model.CEILING, model.CEILING + 1],
             }[size]
             for to in sorted({number % 256**size for number in near + limits} - {now}):
-                yield data[:at] + to.to_bytes(size, "big") + data[at + size :], f"{name} set to {to}"
+                changed = data[:at] + to.to_bytes(size, "big") + data[at + size :]
+                yield changed, f"{name} set to {to}"
         at += size
 
 
@@ -478,8 +479,8 @@ abort 4
 
 
 def swept_bench():
-    """Six purses: idle with a full log; epr, its whole balance at stake; epv, filled to the ceiling;
-    epa; idle; new. Messages and entries of each kind, a pair among the archived."""
+    """Six purses: idle with a full log; epr with its whole balance; epv up to the ceiling; epa;
+    idle; new. Messages of each kind, archive entries, a pair among them."""
     bench = model.Bench()
     model.opening(bench, [1000, 300, 4_999_000, 1000, 0, 5])
     logged = "start-to 0 from 4 number 9 amount 2\nabort 0\n"

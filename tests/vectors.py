@@ -62,6 +62,11 @@ def events(*rows):
     return "".join(f"bytes {row}\n" for row in rows)
 
 
+def places(*numbers):
+    """A delivery and a loss at each of these places."""
+    return "".join(f"deliver {place} to 0\nlose {place}\n" for place in numbers)
+
+
 VECTORS_MADE = {
     # the listing of document 01
     "listing": (LISTING, "0 0 0 0 13 0 0 0"),
@@ -227,15 +232,13 @@ VECTORS_MADE = {
     "places-large": (
         TWO
         + PAYMENT
-        + "".join(
-            f"deliver {place} to 0\nlose {place}\n" for place in (1, 256, 65536, 16777216, 4294967295)
-        )
+        + places(1, 256, 65536, 16777216, 4294967295)
         + "deliver 0 to 0\n",
         "0 0 5 5 5 5 5 5 5 5 5 5 0",
     ),
     "places-large-full": (
         FILLED
-        + "".join(f"deliver {place} to 0\nlose {place}\n" for place in (256, 511, 65536, 4294967295))
+        + places(256, 511, 65536, 4294967295)
         + "deliver 255 to 0\nlose 255\nlose 255\n",
         ".. 5 5 5 5 5 5 5 5 13 0 5",
     ),
