@@ -679,6 +679,8 @@ def card_input(rng, bench):
     says = "right record"
     if rng.random() < 0.4:
         purse, says = damaged_purse(rng, purse, rng.choice([bench.count, model.PURSES]))
+    elif purse.status != IDLE and rng.random() < 0.1:
+        purse, says = full_log(purse, name, model.PURSES), "busy with eight log entries"
     chance = rng.random()
     if chance < 0.06:
         name = rng.choice([31, 32, 40, 127, 128, 255])

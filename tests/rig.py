@@ -10,7 +10,7 @@ compares every byte that they give.
 Parts: the edges of document 01; each field of a state and of a record at each of its edges;
 requests to the probe on right and damaged benches, images and records; the ends of the probe's
 stream; lists of events through the program (accepted and refused ones, replays, losses, full logs,
-archive and ether, bad openings, cut events). The test vectors are run by vectors.py and examples.sh.
+archive and ether, bad openings, cut events). vectors.py and examples.sh run the test vectors.
 
 A failure says the seed, the case and the first difference, and keeps the input under target/rig.
 The last line is 'N passed, M failed'; the exit status is 1 on any failure.
@@ -146,12 +146,19 @@ def state_bytes(bench):
 
 
 class Request:
-    """One request to the probe with the reply that the model expects, and words about it."""
+    """One request to the probe with the reply that the model expects, and words about it. `faults`
+    gives the rules that the bench, stored bench or record does not keep."""
 
-    def __init__(self, letter, bench, body, reply, says):
+    def __init__(self, letter, bench, body, reply, says, faults=()):
         self.letter, self.bench, self.says = letter, bench, says
         self.bytes = letter.encode() + body
         self.reply = reply
+        self.faults = faults
+
+    def broken_alone(self):
+        """The rule for which alone the answer is 2; None where there is no such."""
+        broken = set(self.faults) if self.reply[0] == 2 else ()
+        return next(iter(broken)) if len(broken) == 1 else None
 
     def difference(self, got):
         """What differs in a reply, in words; None where nothing does."""
@@ -164,7 +171,8 @@ def event_request(bench, data, says):
     after = bench.copy()
     answer = model.event(after, data)
     body = state_bytes(bench) + bytes([len(data)]) + data
-    return Request("E", bench, body, bytes([answer]) + state_bytes(after), f"{told(data)}, {says}")
+    reply = bytes([answer]) + state_bytes(after)
+    return Request("E", bench, body, reply, f"{told(data)}, {says}", model.faults(bench))
 
 
 def opening_request(bench, balances, says):
@@ -175,12 +183,14 @@ def opening_request(bench, balances, says):
     return Request("O", bench, body, reply, f"balances {balances}, {says}")
 
 
-def read_request(bench, image, says):
+def read_request(bench, image, says, stored=None):
+    """Reading an image; `stored` is the bench whose image it is, if it is that and no more."""
     after = bench.copy()
     answer = model.read(after, image)
     body = state_bytes(bench) + struct.pack(">H", len(image)) + image
     reply = bytes([answer]) + state_bytes(after)
-    return Request("R", bench, body, reply, f"{len(image)} bytes, {says}")
+    faults = model.faults(stored) if stored else ()
+    return Request("R", bench, body, reply, f"{len(image)} bytes, {says}", faults)
 
 
 def write_request(bench, size, says):
@@ -188,13 +198,13 @@ def write_request(bench, size, says):
     answer, length = model.write(bench, buffer)
     body = state_bytes(bench) + struct.pack(">H", size)
     reply = struct.pack(">BH", answer, length) + buffer
-    return Request("W", bench, body, reply, f"buffer of {size} bytes, {says}")
+    return Request("W", bench, body, reply, f"buffer of {size} bytes, {says}", model.faults(bench))
 
 
 def claims_request(bench, says):
     right = model.well_formed(bench)
     reply = struct.pack(">BI", 0 if right else 2, model.claims(bench) if right else 0)
-    return Request("C", bench, state_bytes(bench), reply, says)
+    return Request("C", bench, state_bytes(bench), reply, says, model.faults(bench))
 
 
 def card_request(told_to_card, says):
@@ -205,7 +215,8 @@ def card_request(told_to_card, says):
     reply = bytes([answer]) + model.record_bytes(after)
     reply += model.marked_bytes([sent]) + model.details_bytes(collected)
     about = f"own name {name}, {KINDS[kind]}, counterparty {counterparty}, number {number}"
-    return Request("P", None, body, reply, f"{about}, amount {amount}, {message}, {says}")
+    faults = model.purse_faults(name, purse, PURSES)
+    return Request("P", None, body, reply, f"{about}, amount {amount}, {message}, {says}", faults)
 
 
 def counts_kept(bench):
@@ -490,7 +501,7 @@ def swept_bench():
     return bench
 
 
-def run_sweep(probe, tally):
+def run_sweep(probe, tally, alone):
     """Each field of a state and of a record at each of its edges, through every entry in turn."""
     bench = swept_bench()
     last_message, last_entry = bench.message_count - 1, bench.archive_count - 1
@@ -504,9 +515,10 @@ def run_sweep(probe, tally):
         state_bytes(bench), state_layout(), lambda name: name.startswith(tuple(parts))
     )
     for case, (data, says) in enumerate(changes, 1):
-        request = swept_request(bench, state_of(data), "ECWR"[case % 4], says)
+        request = plain_request("ECWR"[case % 4], state_of(data), says)
         fault = request.difference(probe.ask(request))
         tally.count(f"sweep {case}", fault and f"{request.letter} ({says}): {fault}", request.bytes)
+        alone[request.letter, request.broken_alone()] += 1
     for name in range(bench.count):
         purse = bench.table[name]
         expected = model.Message(generate.EXPECTED.get(purse.status, 1), purse.details)
@@ -518,11 +530,13 @@ def run_sweep(probe, tally):
             fault = request.difference(probe.ask(request))
             fault = fault and f"{request.says}: {fault}"
             tally.count(f"card sweep {name} {case}", fault, request.bytes)
+            alone["P", request.broken_alone()] += 1
 
 
-def swept_request(before, bench, letter, says):
+def plain_request(letter, bench, says):
+    """A request that is answered with 0 unless the bench breaks a rule."""
     if letter == "R" and counts_kept(bench):
-        return read_request(before, model.image(bench), says)
+        return read_request(model.Bench(), model.image(bench), says, bench)
     if letter == "W":
         return write_request(bench, 12042, says)
     if letter == "C":
@@ -531,20 +545,29 @@ def swept_request(before, bench, letter, says):
 
 
 def run_requests(probe, requests, tally, seen, alone):
-    """Drawn requests; notes the answers given and the rules that were broken alone."""
+    """Drawn requests; notes the answers given and the rules that were broken alone. A bench that
+    breaks one rule alone goes to the other entries too, until each has seen that rule thrice."""
     pool = generate.Pool(random.Random(f"{tally.seed} pool"))
     rng = random.Random(f"{tally.seed} requests")
-    for case in range(1, requests + 1):
-        request = drawn_request(rng, pool)
+
+    def ask(case, request):
         fault = request.difference(probe.ask(request))
         if fault is not None:
             fault = f"{request.letter} ({request.says}): {fault}"
-        tally.count(f"request {case}", fault, request.bytes)
+        tally.count(case, fault, request.bytes)
         seen[request.letter, request.reply[0]] += 1
-        if request.letter in "EWC" and request.reply[0] == 2:
-            broken = list(model.faults(request.bench))
-            if len(set(broken)) == 1:
-                alone[broken[0]] += 1
+        rule = request.broken_alone()
+        alone[request.letter, rule] += 1
+        return rule
+
+    for case in range(1, requests + 1):
+        request = drawn_request(rng, pool)
+        rule = ask(f"request {case}", request)
+        if rule is not None and request.letter in "EWC":
+            for letter in "EWC" if rule in STATE_RULES else "EWCR":
+                if alone[letter, rule] < 3:
+                    again = plain_request(letter, request.bench, request.says)
+                    ask(f"request {case} {letter}", again)
 
 
 def run_ends(path, tally):
@@ -582,11 +605,9 @@ ANSWERS = {
     "P": [0, 2, 4, 6, 7, 8, 9, 10, 11, 12, 13, 14],
 }
 
-# Every rule of a table, in the model's words.
-RULES = [
-    "1 to 32 purses",
-    "at most 256 messages",
-    "at most 256 archive entries",
+# Every rule, in the model's words: about one purse alone; about what an image holds beside the
+# purses; about what an image cannot say.
+PURSE_RULES = [
     "balance ceiling",
     "next at least 1",
     "status 0 to 3",
@@ -603,6 +624,8 @@ RULES = [
     "epr amount at most balance",
     "epv balance plus amount at most ceiling",
     "same details twice in a purse",
+]
+IMAGE_RULES = [
     "message kind 1 to 3",
     "message names two purses and a legal amount",
     "message payee's number below next",
@@ -617,6 +640,11 @@ RULES = [
     "same details twice in the archive",
     "same details in log and archive",
     "same details running and in the archive",
+]
+STATE_RULES = [
+    "1 to 32 purses",
+    "at most 256 messages",
+    "at most 256 archive entries",
     "records past the count zero",
     "unused message places zero",
     "unused archive places zero",
@@ -629,10 +657,13 @@ def check_reach(tally, seen, alone):
         missed = [number for number in numbers if not seen[letter, number]]
         fault = f"no request {letter} was drawn with the answers {missed}" if missed else None
         tally.count(f"reach {letter}", fault)
-    missed = [rule for rule in RULES if not alone[rule]]
-    fault = f"never broken alone: {missed}" if missed else None
-    tally.count("reach rules", fault)
-    unknown = sorted(set(alone) - set(RULES))
+    every = PURSE_RULES + IMAGE_RULES + STATE_RULES
+    rules = {"E": every, "W": every, "C": every, "R": PURSE_RULES + IMAGE_RULES, "P": PURSE_RULES}
+    for letter, listed in rules.items():
+        missed = [rule for rule in listed if not alone[letter, rule]]
+        fault = f"no request {letter} broke alone: {missed}" if missed else None
+        tally.count(f"reach rules {letter}", fault)
+    unknown = {rule for _, rule in alone} - {None, *every}
     tally.count("reach names", f"rules not listed: {unknown}" if unknown else None)
 
 
@@ -657,15 +688,15 @@ def main():
     print(f"seed {asked.seed}")
     probe = Probe(asked.probe)
     run_edges(probe, tally)
-    run_sweep(probe, tally)
+    run_sweep(probe, tally, alone)
     run_requests(probe, asked.requests, tally, seen, alone)
     left, status = probe.end()
     ended = f"wrote {len(left)} bytes more and ended with {status}" if left or status != 0 else None
     tally.count("end of the requests", ended)
     run_ends(asked.probe, tally)
-    print(f"{asked.requests} requests to the probe; rules broken alone:")
-    for rule, count in sorted(alone.items()):
-        print(f"  {count:6} {rule}")
+    print(f"{asked.requests} requests to the probe; rules broken alone at E, W, C, R and P:")
+    for rule in sorted({rule for _, rule in alone} - {None}):
+        print("".join(f"{alone[letter, rule]:6}" for letter in "EWCRP"), rule)
     done, lists = run_programs(asked.prs, asked.events, tally, answers)
     print(f"{done} events in {lists} inputs through the program; answers:")
     print("  " + ", ".join(f"{answer}: {count}" for answer, count in sorted(answers.items())))
