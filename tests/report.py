@@ -229,7 +229,7 @@ def main():
     asked = options.parse_args()
     if shutil.which("maude") is None:
         print("skipped: maude is not installed")
-        finish(0, 0)
+        return
     replays = [drawn(random.Random(f"{asked.seed} report {case}")) for case in range(asked.lists)]
     passed = failed = events = 0
     steps = Counter(step.split("(")[0] for replay in replays for step in replay.steps)

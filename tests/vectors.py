@@ -7,11 +7,11 @@ examples are kept as files: tests/vectors/NAME.in and NAME.out, examples/NAME.tx
 
     vectors.py             checks the files against the answers below and against the model
     vectors.py --write     writes the files anew
-    vectors.py --prs PATH  also runs the program on each and compares every byte
+
+examples.sh runs the program on them.
 """
 
 import argparse
-import subprocess
 
 from common import EXAMPLES, VECTORS, finish, words
 import model
@@ -343,7 +343,7 @@ def write_all():
         listing.write_bytes(model.program(data))
 
 
-def wrong(name, data, listing, answers, prs):
+def wrong(name, data, listing, answers):
     """What is wrong with a vector, in words; None where nothing is."""
     want = listing.read_bytes()
     if answers is not None and (VECTORS / f"{name}.in").read_bytes() != data:
@@ -354,25 +354,18 @@ def wrong(name, data, listing, answers, prs):
         return "the listing file is not document 01's listing"
     if model.program(data) != want:
         return "the model prints another listing"
-    if prs is not None:
-        run = subprocess.run([prs], input=data, stdout=subprocess.PIPE, timeout=60)
-        if run.returncode != 0:
-            return f"the program ended with status {run.returncode}"
-        if run.stdout != want:
-            return f"the program printed {run.stdout!r}, expected {want!r}"
     return None
 
 
 def main():
     options = argparse.ArgumentParser(description=__doc__.splitlines()[0])
     options.add_argument("--write", action="store_true", help="write the files anew")
-    options.add_argument("--prs", help="also run this program on every vector")
     asked = options.parse_args()
     if asked.write:
         write_all()
     passed = failed = 0
     for name, data, listing, answers in all_vectors():
-        fault = wrong(name, data, listing, answers, asked.prs)
+        fault = wrong(name, data, listing, answers)
         if fault is None:
             passed += 1
         else:
