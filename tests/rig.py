@@ -7,8 +7,8 @@ compares every byte that they give.
     rig.py --seed 7 --events 1000000 --requests 100000
     rig.py --prs PATH --probe PATH  other programs
 
-Parts: the edges of document 01; each field of a state and of a record at each of its edges;
-requests to the probe on right and damaged benches, images and records; the ends of the probe's
+Parts: the edges of document 01; requests to the probe on right and damaged benches, images and
+records; each field of a state and of a record at each of its edges; the ends of the probe's
 stream; lists of events through the program (accepted and refused ones, replays, losses, full logs,
 archive and ether, bad openings, cut events). vectors.py and examples.sh run the test vectors.
 
@@ -688,8 +688,8 @@ def main():
     print(f"seed {asked.seed}")
     probe = Probe(asked.probe)
     run_edges(probe, tally)
-    run_sweep(probe, tally, alone)
     run_requests(probe, asked.requests, tally, seen, alone)
+    run_sweep(probe, tally, alone)
     left, status = probe.end()
     ended = f"wrote {len(left)} bytes more and ended with {status}" if left or status != 0 else None
     tally.count("end of the requests", ended)
