@@ -35,7 +35,8 @@ import model
 from model import ENTRIES, LOG_PLACES, MESSAGES, PURSES, RECORD_SIZE
 
 KEPT = ROOT / "target" / "rig"
-PATIENCE = 10  # seconds for one reply or listing
+PATIENCE = 20  # seconds for one reply
+LISTING_PATIENCE = 120  # seconds for one listing, or all replies to one stream
 ENOUGH = 25  # failures, after which the rig stops
 REACHING = 10_000  # so many requests must reach every answer and every rule
 
@@ -238,7 +239,8 @@ def write_size(rng, bench):
 def drawn_request(rng, pool):
     """One request of any kind."""
     bench, says = pool.bench(rng)
-    if rng.random() < 0.1:
+    letter = rng.choices("EORWCP", [36, 5, 18, 13, 9, 19])[0]
+    if letter == "P":
         return card_request(*generate.card_input(rng, bench))
     event = generate.event_of(rng, bench)  # drawn before the damage, so it may be a right one
     harm = rng.random()
@@ -246,7 +248,6 @@ def drawn_request(rng, pool):
         says += ", " + generate.damage(rng, bench)
         if harm < 0.05 and counts_kept(bench):
             says += ", " + generate.damage(rng, bench)
-    letter = rng.choices("EORWCP", [40, 5, 20, 15, 10, 10])[0]
     if letter == "E":
         return event_request(bench, event, says)
     if letter == "O":
@@ -259,10 +260,7 @@ def drawn_request(rng, pool):
         return read_request(before, image, f"{says}, {kind}")
     if letter == "W":
         return write_request(bench, write_size(rng, bench), says)
-    if letter == "C":
-        return claims_request(bench, says)
-    right, _ = pool.bench(rng)
-    return card_request(*generate.card_input(rng, right))
+    return claims_request(bench, says)
 
 
 def stored_image(rng, bench):
@@ -325,7 +323,7 @@ class Probe:
 def output_of(path, data):
     """Everything a program writes for an input, and its exit status."""
     try:
-        run = subprocess.run([path], input=data, stdout=subprocess.PIPE, timeout=PATIENCE)
+        run = subprocess.run([path], input=data, stdout=subprocess.PIPE, timeout=LISTING_PATIENCE)
     except subprocess.TimeoutExpired as late:
         return late.stdout or b"", "no end"
     return run.stdout, run.returncode
@@ -345,7 +343,7 @@ def output_in_pieces(path, data, rng):
             pass  # it ended before its input, which a request that is none may make it do
         running.stdin.close()
         try:
-            status = running.wait(timeout=PATIENCE)
+            status = running.wait(timeout=LISTING_PATIENCE)
         except subprocess.TimeoutExpired:
             running.kill()
             running.wait()
