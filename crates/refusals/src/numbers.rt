@@ -1,6 +1,6 @@
 // The number that refuses a step, or 0: its tests one by one, top to bottom, in document 01's order.
-use super::rules::is_legal;
-use super::rules::well_formed;
+use super::form::is_legal;
+use super::form::well_formed;
 use purse::Amount;
 use purse::Message;
 use purse::Name;

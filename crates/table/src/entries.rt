@@ -6,7 +6,7 @@ use desk::Archive;
 use desk::Entry;
 use purse::Name;
 use purse::Purse;
-use refusals::rules::is_entry;
+use refusals::form::is_entry;
 ghost use mathlib.Core.Path.{_≡_};
 ghost use lib.ListN.{drop};
 ghost use Rattle.purse.specs.Lists.{all, distinct};

@@ -9,7 +9,7 @@ use desk::Desk;
 use desk::Held;
 use purse::Name;
 use purse::Purse;
-use refusals::rules::well_formed;
+use refusals::form::well_formed;
 ghost use mathlib.Core.Path.{_≡_};
 ghost use Rattle.rules.specs.Laid.{heldOk};
 ghost use Rattle.table.specs.Records.{deskOk, recordOk};

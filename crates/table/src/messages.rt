@@ -5,7 +5,7 @@ use desk::Ether;
 use purse::Message;
 use purse::Name;
 use purse::Purse;
-use refusals::rules::is_named;
+use refusals::form::is_named;
 ghost use mathlib.Core.Path.{_≡_};
 ghost use lib.ListN.{drop};
 ghost use Rattle.purse.specs.Lists.{all, distinct};

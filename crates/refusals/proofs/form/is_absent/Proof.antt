@@ -5,8 +5,8 @@ use mathlib.Core.Path.{_≡_}
 use Prim.Native.Nat.{_≤_, _-_}
 use Rattle.purse.specs.Details.{absent}
 use borrow.Author.Needs.{needs}
-use Rattle.refusals.proofs.rules.is_absent.Statement.{statement}
-use Rattle.refusals.proofs.rules.is_absent.Tie as tie
+use Rattle.refusals.proofs.form.is_absent.Statement.{statement}
+use Rattle.refusals.proofs.form.is_absent.Tie as tie
 
 abbrev Inv-loop : tie.InvT-loop
 Inv-loop n d log ok₀ j₀ ok j = (j ≤ n) × (ok ≡ absent log d j)

@@ -1,8 +1,8 @@
 -- `card::rules::is_entry` meets its contract: by what its three tests promise. Assumes nothing.
 use Rattle.purse.specs.Details.{entryOk}
 use borrow.Author.Needs.{needs}
-use Rattle.refusals.proofs.rules.is_entry.Statement.{statement}
-use Rattle.refusals.proofs.rules.is_entry.Tie as tie
+use Rattle.refusals.proofs.form.is_entry.Statement.{statement}
+use Rattle.refusals.proofs.form.is_entry.Tie as tie
 
 is-named-requires : tie.Need-is-named-requires
 is-named-requires c κs = search needs

@@ -1,7 +1,7 @@
 -- `card::rules::is_payee` meets its contract: by computing the definition. Assumes nothing.
 use Rattle.purse.specs.Details.{asPayee}
-use Rattle.refusals.proofs.rules.is_payee.Statement.{statement}
-use Rattle.refusals.proofs.rules.is_payee.Tie as tie
+use Rattle.refusals.proofs.form.is_payee.Statement.{statement}
+use Rattle.refusals.proofs.form.is_payee.Tie as tie
 
 returns : tie.Need-returns
 unfolding asPayee

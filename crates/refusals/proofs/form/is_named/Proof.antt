@@ -1,8 +1,8 @@
 -- `card::rules::is_named` meets its contract: by what `is_legal` promises. Assumes nothing.
 use Rattle.purse.specs.Details.{named}
 use borrow.Author.Needs.{needs}
-use Rattle.refusals.proofs.rules.is_named.Statement.{statement}
-use Rattle.refusals.proofs.rules.is_named.Tie as tie
+use Rattle.refusals.proofs.form.is_named.Statement.{statement}
+use Rattle.refusals.proofs.form.is_named.Tie as tie
 
 is-legal-requires : tie.Need-is-legal-requires
 is-legal-requires c κs = search needs

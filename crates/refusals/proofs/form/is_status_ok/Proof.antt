@@ -1,8 +1,8 @@
 -- `card::rules::is_status_ok` meets its contract: status by status (`Cases`). Assumes nothing.
 use Rattle.refusals.proofs.Cases.{at-idle, at-epr, at-epv, at-epa, at-none}
 use borrow.Author.Needs.{needs}
-use Rattle.refusals.proofs.rules.is_status_ok.Statement.{statement}
-use Rattle.refusals.proofs.rules.is_status_ok.Tie as tie
+use Rattle.refusals.proofs.form.is_status_ok.Statement.{statement}
+use Rattle.refusals.proofs.form.is_status_ok.Tie as tie
 
 ceiling-requires : tie.Need-ceiling-requires
 ceiling-requires c κs = search needs

@@ -1,7 +1,7 @@
 -- `card::rules::is_legal` meets its contract: by computing the definition. Assumes nothing.
 use Rattle.purse.specs.Details.{legal}
-use Rattle.refusals.proofs.rules.is_legal.Statement.{statement}
-use Rattle.refusals.proofs.rules.is_legal.Tie as tie
+use Rattle.refusals.proofs.form.is_legal.Statement.{statement}
+use Rattle.refusals.proofs.form.is_legal.Tie as tie
 
 returns : tie.Need-returns
 unfolding legal

@@ -1,8 +1,8 @@
 -- `card::rules::is_place_ok` meets its contract: by what its tests promise. Assumes nothing.
 use Rattle.purse.specs.Purse.{placeOk}
 use borrow.Author.Needs.{needs}
-use Rattle.refusals.proofs.rules.is_place_ok.Statement.{statement}
-use Rattle.refusals.proofs.rules.is_place_ok.Tie as tie
+use Rattle.refusals.proofs.form.is_place_ok.Statement.{statement}
+use Rattle.refusals.proofs.form.is_place_ok.Tie as tie
 
 mul-e : tie.Need-mul-e
 mul-e c = search needs

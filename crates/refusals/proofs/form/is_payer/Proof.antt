@@ -1,7 +1,7 @@
 -- `card::rules::is_payer` meets its contract: by computing the definition. Assumes nothing.
 use Rattle.purse.specs.Details.{asPayer}
-use Rattle.refusals.proofs.rules.is_payer.Statement.{statement}
-use Rattle.refusals.proofs.rules.is_payer.Tie as tie
+use Rattle.refusals.proofs.form.is_payer.Statement.{statement}
+use Rattle.refusals.proofs.form.is_payer.Tie as tie
 
 returns : tie.Need-returns
 unfolding asPayer

@@ -1,8 +1,8 @@
 -- `card::rules::well_formed` meets its contract: by what its tests promise. Assumes nothing.
 use Rattle.purse.specs.Purse.{wellFormed}
 use borrow.Author.Needs.{needs}
-use Rattle.refusals.proofs.rules.well_formed.Statement.{statement}
-use Rattle.refusals.proofs.rules.well_formed.Tie as tie
+use Rattle.refusals.proofs.form.well_formed.Statement.{statement}
+use Rattle.refusals.proofs.form.well_formed.Tie as tie
 
 ceiling-requires : tie.Need-ceiling-requires
 ceiling-requires c κs = search needs

@@ -9,8 +9,8 @@ use Rattle.purse.specs.Lists.{every}
 use Rattle.purse.specs.Purse.{placeOk, logOk}
 use Rattle.purse.proofs.Lists.{unmapped}
 use borrow.Author.Needs.{needs}
-use Rattle.refusals.proofs.rules.is_log_ok.Statement.{statement}
-use Rattle.refusals.proofs.rules.is_log_ok.Tie as tie
+use Rattle.refusals.proofs.form.is_log_ok.Statement.{statement}
+use Rattle.refusals.proofs.form.is_log_ok.Tie as tie
 
 abbrev Inv-loop : tie.InvT-loop
 Inv-loop p own ok₀ i₀ ok i = (i ≤ 8) × (ok ≡ every i (placeOk own p))
