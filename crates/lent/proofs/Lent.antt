@@ -83,13 +83,17 @@ place-is s o i = ix.place-is s o i
 abbrev pub OpenRef : (R : RattleType) → Lft → Share → GName → ℕ → ℕ → R .Denot → Fml
 OpenRef R κ q γ b o h = fsep (fobor κ q (BorBody (mem R) b o γ)) (fsep (fobs γ (R .coded .code h)) (fauth γ (R .coded .code h)))
 
--- the same of one element of a slice
+-- the same of a slice, whose elements lie open
+abbrev pub OpenSlice : (R : RattleType) → Lft → Share → GName → ℕ → ℕ → List (R .Denot) → Fml
+OpenSlice R κ q γ b o ys = fsep (fobor κ q (Held R (length ys) b o γ)) (fsep (fobs γ (codedHoleys R .code (heres R ys))) (fauth γ (codedHoleys R .code (heres R ys))))
+
+-- of one element: the others, and what closes the slice
 abbrev pub OpenAt : (R : RattleType) → Lft → Share → GName → ℕ → ℕ → List (R .Denot) → ℕ → Fml
-OpenAt R κ q γ b o ys i = fsep (others (shares R) fullShare ys i b o) (fsep (fobor κ q (Held R (length ys) b o γ)) (fsep (fobs γ (codedHoleys R .code (heres R ys))) (fauth γ (codedHoleys R .code (heres R ys)))))
+OpenAt R κ q γ b o ys i = fsep (others (shares R) fullShare ys i b o) (OpenSlice R κ q γ b o ys)
 
 -- what the holder of a `&mut [T]` keeps while it is shared out as a `&[T]` for a lifetime κ′
 abbrev pub SharedOut : (R : RattleType) → Lft → Lft → Share → GName → ℕ → ℕ → List (R .Denot) → Fml
-SharedOut R κ κ′ q γ b o ys = fsep (flent κ′ (arr-parts (shares R) (length ys) .part fullShare ys b o)) (fsep (fobor κ q (Held R (length ys) b o γ)) (fsep (fobs γ (codedHoleys R .code (heres R ys))) (fauth γ (codedHoleys R .code (heres R ys)))))
+SharedOut R κ κ′ q γ b o ys = fsep (flent κ′ (arr-parts (shares R) (length ys) .part fullShare ys b o)) (OpenSlice R κ q γ b o ys)
 
 asks-with : {M : Type 1} {𝓤 : URA M} {H : Heap 𝓤} {A : Atoms 𝓤} {K : Type 0} (W : Given 𝓤 H A) {Γ : List (Item 𝓤)} {G : Goal 𝓤 H} {i j : Item 𝓤} (R : SProp 𝓤) → ent 𝓤 (emp 𝓤) R
     → Step K W (raw (sep 𝓤 (sep 𝓤 (mean 𝓤 H A i) (mean 𝓤 H A j)) R) ∷ Γ) G (i ∷ j ∷ Γ) G
@@ -128,40 +132,48 @@ module _ {M : Type 1} {𝓤 : URA M} {H : Heap 𝓤} {A : Atoms 𝓤} {K : Type 
     shuts-ref t z R ℓ mk h h′ vs b o is = step (λ s. move t (1 ∷ []) $ fsplit3 t $ move t (3 ∷ []) $ owned t R (Is R) mk h′ vs is $ move t (1 ∷ 0 ∷ []) $
         closes t z R h′ vs b o $ feqI t (List Val) (vptr b o ∷ []) (vptr b o ∷ []) refl $ fjoin3 t $ s)
 
+    -- a `&mut [T]` and the token, for its elements side by side and what closes the borrow
+    pub opens-row : K → Soaks G → (R : RattleType) (ℓ : Lifetime) {κ : Lft} {q : Share} {γ : GName} (ys : List (R .Denot)) (b o : ℕ)
+        → Step K W (‵ (row R fullShare ys b o) ∷ ‵ (OpenSlice R κ q γ b o ys) ∷ Γ) G (‵ (MutSlice ℓ κ R .own (record { ptr = (b, o); name = γ; now = ys }) (sliceVal (b, o) (length ys) ∷ [])) ∷ ‵ (flft κ q) ∷ Γ) G
+    opens-row t z R ℓ ys b o = step (λ s. fsplit3 t $ drop t $ opens-slice t z R ys b o $ move t (1 ∷ 2 ∷ 3 ∷ []) $ fjoin3 t $ move t (1 ∷ 0 ∷ []) $ s)
+
+    -- the other way, at another list of that length
+    pub shuts-row : K → Soaks G → (R : RattleType) (ℓ : Lifetime) {κ : Lft} {q : Share} {γ : GName} (ys zs : List (R .Denot)) (b o : ℕ) → length zs ≡ length ys → Room R (length ys)
+        → Step K W (‵ (MutSlice ℓ κ R .own (record { ptr = (b, o); name = γ; now = zs }) (sliceVal (b, o) (length ys) ∷ [])) ∷ ‵ (flft κ q) ∷ Γ) G (‵ (row R fullShare zs b o) ∷ ‵ (OpenSlice R κ q γ b o ys) ∷ Γ) G
+    shuts-row t z R ℓ {κ} {q} {γ} ys zs b o len room = step (λ s. move t (1 ∷ []) $ fsplit3 t $ move t (3 ∷ []) $ closes-slice t z R ys zs len b o $ fjoin t $
+        pureI t (at-slice R (record { ptr = (b, o); name = γ; now = zs }) (sliceVal (b, o) (length ys) ∷ [])) (tt, (tt, tt)) (ap (λ (m : ℕ). sliceVal (b, o) m ∷ []) (sym len), subst (Room R) (sym len) room) $ fjoin t $ s)
+
     -- a `&mut [T]` and the token, for the cell of element i and what closes the borrow
     pub opens-elem : K → Soaks G → (R : RattleType) (ℓ : Lifetime) (vals : R .Denot → List Val) → Tells R (Is R) vals → {κ : Lft} {q : Share} {γ : GName} (ys : List (R .Denot)) (i : ℕ) (d : R .Denot) (b o : ℕ) → i < length ys
         → (Is R (getD ys i d) (vals (getD ys i d)) → Seq K W (‵ (cellAt fullShare (R .mir) (vals (getD ys i d)) b (place-of (mem R .size) o i)) ∷ ‵ (OpenAt R κ q γ b o ys i) ∷ Γ) G)
         → Seq K W (‵ (MutSlice ℓ κ R .own (record { ptr = (b, o); name = γ; now = ys }) (sliceVal (b, o) (length ys) ∷ [])) ∷ ‵ (flft κ q) ∷ Γ) G
     opens-elem t z R ℓ vals tl ys i d b o l k =
-        fsplit3 t $ drop t $ opens-slice t z R ys b o $ ix.elem-out t R (Is R) (shows 𝓤 H A R) vals tl fullShare ys i d b o l (λ p.
-        -- [the cell; what it owns; the others; the open borrow; obs; auth]
-        move t (1 ∷ []) $ drop t $ move t (2 ∷ 3 ∷ 4 ∷ []) $ fjoin3 t $ move t (2 ∷ 0 ∷ []) $ fjoin t $ move t (1 ∷ 0 ∷ []) $ k p)
+        opens-row t z R ℓ ys b o $ ix.elem-out t R (Is R) (shows 𝓤 H A R) vals tl fullShare ys i d b o l (λ p.
+        -- [the cell; what it owns; the others; what closes the slice]
+        move t (1 ∷ []) $ drop t $ move t (1 ∷ 2 ∷ []) $ fjoin t $ move t (1 ∷ 0 ∷ []) $ k p)
 
     -- the other way, with another value at i
     pub shuts-elem : K → Soaks G → (R : RattleType) (ℓ : Lifetime) → Makes 𝓤 H A R (Is R) → {κ : Lft} {q : Share} {γ : GName} (ys : List (R .Denot)) (i : ℕ) (y : R .Denot) (vs : List Val) (b o : ℕ) → i < length ys → Room R (length ys) → Is R y vs
         → Step K W (‵ (MutSlice ℓ κ R .own (record { ptr = (b, o); name = γ; now = set ys i y }) (sliceVal (b, o) (length ys) ∷ [])) ∷ ‵ (flft κ q) ∷ Γ) G
         (‵ (cellAt fullShare (R .mir) vs b (place-of (mem R .size) o i)) ∷ ‵ (OpenAt R κ q γ b o ys i) ∷ Γ) G
-    shuts-elem t z R ℓ mk {κ} {q} {γ} ys i y vs b o l room is = step (λ s. move t (1 ∷ []) $ fsplit t $ move t (1 ∷ []) $ fsplit3 t $ move t (4 ∷ 3 ∷ []) $ owned t R (Is R) mk y vs is $ move t (1 ∷ 0 ∷ []) $
-        elem-put t R fullShare ys i y vs b o l $ closes-slice t z R ys (set ys i y) (length-set ys i y) b o $ fjoin t $
-        pureI t (at-slice R (record { ptr = (b, o); name = γ; now = set ys i y }) (sliceVal (b, o) (length ys) ∷ [])) (tt, (tt, tt)) (ap (λ (m : ℕ). sliceVal (b, o) m ∷ []) (sym (length-set ys i y)), subst (Room R) (sym (length-set ys i y)) room) $
-        fjoin t $ s)
+    shuts-elem t z R ℓ mk ys i y vs b o l room is = step (λ s. move t (1 ∷ []) $ fsplit t $ move t (2 ∷ []) $ owned t R (Is R) mk y vs is $ move t (1 ∷ 0 ∷ []) $
+        elem-put t R fullShare ys i y vs b o l $ shuts-row t z R ℓ ys (set ys i y) b o (length-set ys i y) room $ s)
 
     -- a `&mut [T]` is shared out, `&*s`, for a lifetime α that is made for it
     pub shares-slice : K → Soaks G → (R : RattleType) (ℓ ℓ′ : Lifetime) {κ : Lft} {q : Share} {γ : GName} (ys : List (R .Denot)) (b o : ℕ) → Room R (length ys)
         → ((α : ℕ) (γ₁ : GName) → Seq K W (‵ (ShrSlice ℓ′ (α ∷ []) R .own (record { ptr = (b, o); name = γ₁; now = ys }) (sliceVal (b, o) (length ys) ∷ [])) ∷ ‵ (flft (α ∷ []) fullShare) ∷ ‵ (SharedOut R κ (α ∷ []) q γ b o ys) ∷ Γ) G)
         → Seq K W (‵ (MutSlice ℓ κ R .own (record { ptr = (b, o); name = γ; now = ys }) (sliceVal (b, o) (length ys) ∷ [])) ∷ ‵ (flft κ q) ∷ Γ) G
     shares-slice t z R ℓ ℓ′ ys b o room k =
-        fsplit3 t $ drop t $ opens-slice t z R ys b o $ feqI t ℕ (length ys) (length ys) refl $ fjoin t $ lft-new t z (λ α. move t (1 ∷ []) $
+        opens-row t z R ℓ ys b o $ feqI t ℕ (length ys) (length ys) refl $ fjoin t $ lft-new t z (λ α. move t (1 ∷ []) $
         use1 W (later (some (λ (γ₁ : GName). ‵ (ShrSlice ℓ′ (α ∷ []) R .own (record { ptr = (b, o); name = γ₁; now = ys }) (sliceVal (b, o) (length ys) ∷ [])) ⊛ ‵ (flent (α ∷ []) (arr-parts (shares R) (length ys) .part fullShare ys b o)))))
         (lends-shr-slice 𝓤 H A W R ℓ′ (α ∷ []) fullShare ys b o room) $ await t z $ pick t (λ γ₁. split t $
-        -- [the `&[T]`; the lender's part; the new token; the open borrow; obs; auth]
-        move t (3 ∷ 4 ∷ 5 ∷ []) $ fjoin3 t $ move t (2 ∷ 0 ∷ []) $ fjoin t $ move t (1 ∷ 2 ∷ 0 ∷ []) $ k α γ₁))
+        -- [the `&[T]`; the lender's part; the new token; what closes the slice]
+        move t (1 ∷ 3 ∷ []) $ fjoin t $ move t (1 ∷ 2 ∷ 0 ∷ []) $ k α γ₁))
 
     -- α is ended, and the `&mut [T]` is there again as it was
     pub unshares-slice : K → Soaks G → (R : RattleType) (ℓ : Lifetime) {κ : Lft} {q : Share} {γ : GName} {α : ℕ} (ys : List (R .Denot)) (b o : ℕ) → Room R (length ys)
         → Step K W (‵ (MutSlice ℓ κ R .own (record { ptr = (b, o); name = γ; now = ys }) (sliceVal (b, o) (length ys) ∷ [])) ∷ ‵ (flft κ q) ∷ Γ) G (‵ (flft (α ∷ []) fullShare) ∷ ‵ (SharedOut R κ (α ∷ []) q γ b o ys) ∷ Γ) G
-    unshares-slice t z R ℓ {κ} {q} {γ} ys b o room = step (λ s. lft-end t z $ move t (1 ∷ []) $ fsplit t $ move t (2 ∷ 0 ∷ []) $ lent-back t z $ fsplit t $ drop t $ move t (1 ∷ []) $ fsplit3 t $ move t (3 ∷ 0 ∷ 1 ∷ 2 ∷ []) $
-        closes-slice t z R ys ys refl b o $ fjoin t $ pureI t (at-slice R (record { ptr = (b, o); name = γ; now = ys }) (sliceVal (b, o) (length ys) ∷ [])) (tt, (tt, tt)) (refl, room) $ fjoin t $ s)
+    unshares-slice t z R ℓ ys b o room = step (λ s. lft-end t z $ move t (1 ∷ []) $ fsplit t $ move t (2 ∷ 0 ∷ []) $ lent-back t z $ fsplit t $ drop t $ shuts-row t z R ℓ ys ys b o refl room $ s)
 
     -- a `&mut [T]` is given up for what says its last list
     pub gives-up : K → (R : RattleType) (ℓ : Lifetime) {κ : Lft} {γ : GName} (ys : List (R .Denot)) (b o : ℕ)

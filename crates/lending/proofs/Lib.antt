@@ -1,0 +1,2 @@
+mod Structs
+mod Calls
