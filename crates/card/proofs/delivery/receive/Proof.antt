@@ -1,0 +1,21 @@
+use borrow.Author.Needs.{needs}
+use Rattle.card.proofs.delivery.receive.Statement.{statement}
+use Rattle.card.proofs.delivery.receive.Tie as tie
+
+add-t5 : tie.Need-add-t5
+add-t5 c = search needs
+
+idle-requires : tie.Need-idle-requires
+idle-requires c κs = search needs
+
+zero-requires : tie.Need-zero-requires
+zero-requires c κs = search needs
+
+gives-requires : tie.Need-gives-requires
+gives-requires c κs = search needs
+
+returns : tie.Need-returns
+returns c = cc
+
+pub receive-spec : {M : Type 1} → statement M
+receive-spec = tie.close (tie.spec add-t5 idle-requires zero-requires gives-requires returns)

@@ -1,0 +1,72 @@
+// The two starts: a purse becomes payer or payee.
+use super::answers::gives;
+use super::answers::refused;
+use super::numbers::from_number;
+use super::numbers::to_number;
+use purse::Amount;
+use purse::CardAnswer;
+use purse::Details;
+use purse::Message;
+use purse::Name;
+use purse::Purse;
+use purse::Seq;
+ghost use mathlib.Core.Path.{_≡_};
+ghost use Prim.Native.Nat.{_<_};
+ghost use Rattle.purse.specs.Step.{begunWith, startFrom, startTo};
+
+// Busy with a transfer of the purse's next number, which grows by 1.
+fn begun(p: Purse, status: u8, d: Details) -> Purse
+    requires { ⌜ p .next .0 < 4294967295 ⌝ }
+    ensures { λ r. ⌜ r ≡ begunWith status d p ⌝ }
+{
+    let n = Seq(p.next.0 + 1);
+    let mut q = p;
+    q.next = n;
+    q.status = status;
+    q.details = d;
+    q
+}
+
+// The purse becomes payer; it waits for the request.
+pub fn start_from(p: Purse, own: Name, other: Name, seq: Seq, amount: Amount) -> CardAnswer
+    ensures { λ r. ⌜ r ≡ startFrom p own other seq amount ⌝ }
+{
+    let n = from_number(p, own, other, amount);
+    if n == 0 {
+        let next = p.next;
+        let d = Details {
+            payer: own,
+            payerseq: next,
+            payee: other,
+            payeeseq: seq,
+            amount: amount,
+        };
+        gives(begun(p, 1, d), Message::zero(), Details::zero())
+    } else {
+        refused(p, n)
+    }
+}
+
+// The purse becomes payee; it sends the request and waits for the value.
+pub fn start_to(p: Purse, own: Name, other: Name, seq: Seq, amount: Amount) -> CardAnswer
+    ensures { λ r. ⌜ r ≡ startTo p own other seq amount ⌝ }
+{
+    let n = to_number(p, own, other, amount);
+    if n == 0 {
+        let next = p.next;
+        let d = Details {
+            payer: other,
+            payerseq: seq,
+            payee: own,
+            payeeseq: next,
+            amount: amount,
+        };
+        let m = Message {
+            kind: 1,
+            details: d,
+        };
+        gives(begun(p, 2, d), m, Details::zero())
+    } else {
+        refused(p, n)
+    }
+}
