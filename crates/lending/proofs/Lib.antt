@@ -1,2 +1,4 @@
+mod Given
 mod Structs
 mod Calls
+mod Slices

@@ -18,6 +18,7 @@ use denote.Struct.Laws as LL
 use Rattle.purse.specs.declared.Purse.{Purse}
 use Rattle.desk.specs.declared.Desk.{Desk}
 use Rattle.desk.specs.declared.Answered.{Answered}
+use Rattle.bench.specs.declared.Acted.{Acted}
 use Rattle.lending.specs.declared.Reply.{Reply}
 use Rattle.purse.proofs.Purse as T
 use Rattle.purse.proofs.Purse.Laws as T′
@@ -27,6 +28,8 @@ use Rattle.desk.proofs.Held as F
 use Rattle.desk.proofs.Held.Laws as F′
 use Rattle.desk.proofs.Answered as A
 use Rattle.desk.proofs.Answered.Laws as A′
+use Rattle.bench.proofs.Acted as O
+use Rattle.bench.proofs.Acted.Laws as O′
 use Rattle.lending.proofs.Reply as Y
 use Rattle.lending.proofs.Reply.Laws as Y′
 
@@ -81,3 +84,14 @@ module _ (a : Answered) (vs : List Val) (is : Is A.the-row a vs) where
 
   pub desk-is : Is D.the-row (a .held .desk) (dval (a .held .desk) ∷ [])
   desk-is = LL.owed F.the-type F′.the-laws (a .held) _ held-is .1 .0
+
+-- ---- what an event does at one record
+module _ (r : Acted) (vs : List Val) (is : Is O.the-row r vs) where
+  pub acted-fits : r .answer < 2 ^ 8
+  acted-fits = LL.owed O.the-type O′.the-laws r vs is .0 .1
+
+  pub acted-purse-is : Is T.the-row (r .purse) (pval (r .purse) ∷ [])
+  acted-purse-is = LL.owed O.the-type O′.the-laws r vs is .1 .0
+
+  pub acted-desk-is : Is D.the-row (r .desk) (dval (r .desk) ∷ [])
+  acted-desk-is = LL.owed O.the-type O′.the-laws r vs is .1 .1 .0

@@ -1,12 +1,31 @@
-// The records of a lent table, all of them: copied out to be worked on by value, and replaced.
+// The records of a lent table, all of them: tested, copied out to be worked on by value, and replaced.
 use crate::Reply;
 use desk::Answered;
 use desk::Desk;
 use purse::Purse;
+use table::desk_ok;
+use table::record_ok;
 ghost use mathlib.Core.Path.{_≡_};
 ghost use lib.ListN.{replicate};
 ghost use Rattle.purse.specs.Purse.{zeroPurse};
-ghost use Rattle.lending.specs.Lent.{copiedOf, replacedOf};
+ghost use Rattle.rules.specs.Laid.{heldOk};
+ghost use Rattle.lending.specs.Lent.{held, copiedOf, replacedOf};
+
+// Whether a lent table and a desk obey the rules: 32 records, the desk alone, then each record beside the desk.
+pub fn table_ok(table: &[Purse], desk: Desk) -> bool
+    ensures { λ r. ⌜ r ≡ heldOk (held (now (table .entry)) desk) ⌝ }
+{
+    if table.len() != 32 {
+        return false;
+    }
+    let mut ok = desk_ok(desk);
+    let mut i = 0;
+    while i < 32 {
+        ok = ok & record_ok(table[i], i, desk);
+        i = i + 1;
+    }
+    ok
+}
 
 // A table of unused records.
 pub fn unused() -> [Purse; 32]
