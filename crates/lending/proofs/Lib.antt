@@ -2,3 +2,4 @@ mod Given
 mod Structs
 mod Calls
 mod Slices
+mod Whole
