@@ -8,12 +8,13 @@ use lib.Dec.{ltb, leb, eqb}
 use native.Mathlib.Omega.{arith}
 use borrow.Author.Tests.{eq-eqb, ne-eqb, ltb-true, ltb-false, le-leb, lt-leb}
 use Rattle.purse.specs.declared.Name.{Name}
+use Rattle.purse.specs.declared.Details.{Details}
 use Rattle.purse.specs.declared.Message.{Message}
 use Rattle.purse.specs.declared.Purse.{Purse}
 use Rattle.purse.specs.declared.CardAnswer.{CardAnswer}
 use Rattle.purse.specs.Details.{zeroDetails, sameDetails, named, asPayer, asPayee}
 use Rattle.purse.specs.Purse.{ceiling, idleOk, busyOk}
-use Rattle.purse.specs.Step.{refusedBy, unless, expected, idleWith, stopped, aborted, paid, received, settled, delivered}
+use Rattle.purse.specs.Step.{refusedBy, done, unless, expected, idleWith, stopped, aborted, paid, received, settled, delivered}
 use Rattle.purse.proofs.Bools.{which}
 
 and-false : (a : Bool) → (a && false) ≡ false
@@ -107,3 +108,7 @@ module _ (p : Purse) where
 
     pub refused-at : (k ≡ 0 → ⊥) → unless n p a ≡ refusedBy k p
     refused-at z = simp (ne-eqb n 0 (λ (h : n ≡ 0). z (e ∙ h)), e)
+
+-- what is handed out, part by part
+pub handed : {p q : Purse} {m k : Message} {d e : Details} → p ≡ q → m ≡ k → d ≡ e → done p m d ≡ done q k e
+handed a b c = cc

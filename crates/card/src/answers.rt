@@ -5,6 +5,7 @@ use purse::Details;
 use purse::Message;
 use purse::Purse;
 ghost use mathlib.Core.Path.{_≡_};
+ghost use Rattle.purse.specs.Details.{zeroDetails, zeroMessage};
 ghost use Rattle.purse.specs.Step.{refusedBy, done, idleWith};
 
 // Refused: the record as it was, and nothing handed out.
@@ -29,6 +30,20 @@ pub fn gives(p: Purse, m: Message, e: Details) -> CardAnswer
         message: m,
         entry: e,
     }
+}
+
+// Done, with a message to send.
+pub fn sends(p: Purse, m: Message) -> CardAnswer
+    ensures { λ r. ⌜ r ≡ done p m zeroDetails ⌝ }
+{
+    gives(p, m, Details::zero())
+}
+
+// Done, with nothing handed out.
+pub fn quiet(p: Purse) -> CardAnswer
+    ensures { λ r. ⌜ r ≡ done p zeroMessage zeroDetails ⌝ }
+{
+    sends(p, Message::zero())
 }
 
 // The purse idle, with that balance.

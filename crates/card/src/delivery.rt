@@ -1,11 +1,11 @@
 // A message delivered: the one that the purse waits for, or refused.
-use super::answers::gives;
 use super::answers::idle;
+use super::answers::quiet;
 use super::answers::refused;
+use super::answers::sends;
 use super::numbers::deliver_number;
 use purse::Amount;
 use purse::CardAnswer;
-use purse::Details;
 use purse::Message;
 use purse::Name;
 use purse::Purse;
@@ -27,7 +27,7 @@ fn pay(p: Purse) -> CardAnswer
     let mut q = p;
     q.balance = b;
     q.status = 3;
-    gives(q, m, Details::zero())
+    sends(q, m)
 }
 
 // A value: the balance rises, and the acknowledge is sent.
@@ -41,14 +41,14 @@ fn receive(p: Purse) -> CardAnswer
         kind: 3,
         details: d,
     };
-    gives(idle(p, b), m, Details::zero())
+    sends(idle(p, b), m)
 }
 
 // An acknowledge: idle.
 fn settle(p: Purse) -> CardAnswer
     ensures { λ r. ⌜ r ≡ settled p ⌝ }
 {
-    gives(idle(p, p.balance), Message::zero(), Details::zero())
+    quiet(idle(p, p.balance))
 }
 
 // The purse gets a message; one that it does not wait for is refused.

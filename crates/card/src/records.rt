@@ -1,6 +1,7 @@
 // The exception log: an abort appends the running details where money may be under way, a collect takes the oldest entry out.
 use super::answers::gives;
 use super::answers::idle;
+use super::answers::quiet;
 use super::answers::refused;
 use super::numbers::abort_number;
 use super::numbers::collect_number;
@@ -11,7 +12,9 @@ use purse::Name;
 use purse::Purse;
 ghost use mathlib.Core.Path.{_≡_};
 ghost use Prim.Native.Nat.{_<_};
-ghost use Rattle.purse.specs.Step.{stopped, aborted, taken, abortBy, collectBy};
+ghost use lib.ListN.{getD};
+ghost use Rattle.purse.specs.Details.{zeroDetails};
+ghost use Rattle.purse.specs.Step.{stopped, aborted, movedDown, taken, abortBy, collectBy};
 
 // The details at the end of the log, and the purse idle.
 fn stop(p: Purse) -> Purse
@@ -45,20 +48,34 @@ pub fn abort(p: Purse, own: Name) -> CardAnswer
 {
     let n = abort_number(p, own);
     if n == 0 {
-        gives(quit(p), Message::zero(), Details::zero())
+        quiet(quit(p))
     } else {
         refused(p, n)
     }
 }
 
-// The log without its oldest entry; the later ones move down one place.
+// The oldest entry out, the later ones one place down.
+pub fn moved_down(l: [Details; 8]) -> [Details; 8]
+    ensures { λ r. ⌜ r ≡ movedDown l ⌝ }
+{
+    let z = Details::zero();
+    [l[1], l[2], l[3], l[4], l[5], l[6], l[7], z]
+}
+
+// The first place of the log.
+pub fn oldest(p: Purse) -> Details
+    ensures { λ r. ⌜ r ≡ getD (p .log) 0 zeroDetails ⌝ }
+{
+    p.log[0]
+}
+
+// The purse without its oldest log entry.
 fn take_oldest(p: Purse) -> Purse
     requires { ⌜ 0 < p .logged ⌝ }
     ensures { λ r. ⌜ r ≡ taken p ⌝ }
 {
     let l = p.log;
-    let z = Details::zero();
-    let moved = [l[1], l[2], l[3], l[4], l[5], l[6], l[7], z];
+    let moved = moved_down(l);
     let mut q = p;
     q.log = moved;
     q.logged = p.logged - 1;
@@ -71,8 +88,7 @@ pub fn collect(p: Purse, own: Name) -> CardAnswer
 {
     let n = collect_number(p, own);
     if n == 0 {
-        let e = p.log[0];
-        gives(take_oldest(p), Message::zero(), e)
+        gives(take_oldest(p), Message::zero(), oldest(p))
     } else {
         refused(p, n)
     }

@@ -6,3 +6,10 @@ pub mod Log
 pub mod Rules
 pub mod Steps
 pub mod Keep
+pub mod Count
+pub mod Padded
+pub mod Refused
+pub mod Money
+pub mod Numbers
+pub mod Unique
+pub mod Edges

@@ -1,6 +1,6 @@
 use mathlib.Core.Path.{sym, _∙_}
-use borrow.Author.Tests.{eq-eqb, ne-eqb}
-use Rattle.purse.specs.Step.{deliverTo}
+use Rattle.card.proofs.Cases.{done-at, refused-at, deliver-request, deliver-value, deliver-other}
+use Rattle.purse.specs.Step.{deliverNumber, deliverTo}
 use Rattle.purse.proofs.Steps.{deliver-pay, deliver-get}
 use borrow.Author.Needs.{needs}
 use Rattle.card.proofs.delivery.deliver.Statement.{statement}
@@ -23,19 +23,19 @@ refused-requires c κs = search needs
 
 returns : tie.Need-returns
 unfolding deliverTo
-returns c = simp (eq-eqb _ 0 (sym (c .before .before .before .deliver-number .ensures) ∙ c .before .before .if1 .taken), eq-eqb _ 1 (c .before .match .keys1)) cc
+returns c = c .pay .ensures ∙ sym (deliver-request (c .before .before .before .before .args .p) (c .before .before .before .before .args .m .kind) (c .before .match .keys1)) ∙ sym (done-at (c .before .before .before .before .args .p) (deliverNumber (c .before .before .before .before .args .p) (c .before .before .before .before .args .own) (c .before .before .before .before .args .m)) _ (c .before .before .before .deliver-number .ensures) (c .before .before .if1 .taken))
 
 returns-2 : tie.Need-returns-2
 unfolding deliverTo
-returns-2 c = simp (eq-eqb _ 0 (sym (c .before .before .before .deliver-number .ensures) ∙ c .before .before .if1 .taken), c .before .match .keys2) cc
+returns-2 c = c .receive .ensures ∙ sym (deliver-value (c .before .before .before .before .args .p) (c .before .before .before .before .args .m .kind) (c .before .match .keys2)) ∙ sym (done-at (c .before .before .before .before .args .p) (deliverNumber (c .before .before .before .before .args .p) (c .before .before .before .before .args .own) (c .before .before .before .before .args .m)) _ (c .before .before .before .deliver-number .ensures) (c .before .before .if1 .taken))
 
 returns-3 : tie.Need-returns-3
 unfolding deliverTo
-returns-3 c = simp (eq-eqb _ 0 (sym (c .before .before .before .deliver-number .ensures) ∙ c .before .before .if1 .taken), ne-eqb _ 1 (c .before .match .rest .0 .1), ne-eqb _ 2 (c .before .match .rest .1)) cc
+returns-3 c = c .settle .ensures ∙ sym (deliver-other (c .before .before .before .before .args .p) (c .before .before .before .before .args .m .kind) (c .before .match .rest .0 .1) (c .before .match .rest .1)) ∙ sym (done-at (c .before .before .before .before .args .p) (deliverNumber (c .before .before .before .before .args .p) (c .before .before .before .before .args .own) (c .before .before .before .before .args .m)) _ (c .before .before .before .deliver-number .ensures) (c .before .before .if1 .taken))
 
 returns-4 : tie.Need-returns-4
 unfolding deliverTo
-returns-4 c = simp (ne-eqb _ 0 (λ h. c .before .if1 .left (c .before .before .deliver-number .ensures ∙ h))) cc
+returns-4 c = c .refused .ensures ∙ sym (refused-at (c .before .before .before .args .p) (deliverNumber (c .before .before .before .args .p) (c .before .before .before .args .own) (c .before .before .before .args .m)) _ (c .before .before .deliver-number .ensures) (c .before .if1 .left))
 
 pub deliver-spec : {M : Type 1} → statement M
 deliver-spec =

@@ -8,14 +8,11 @@ add-t5 c = search needs
 idle-requires : tie.Need-idle-requires
 idle-requires c κs = search needs
 
-zero-requires : tie.Need-zero-requires
-zero-requires c κs = search needs
-
-gives-requires : tie.Need-gives-requires
-gives-requires c κs = search needs
+sends-requires : tie.Need-sends-requires
+sends-requires c κs = search needs
 
 returns : tie.Need-returns
 returns c = cc
 
 pub receive-spec : {M : Type 1} → statement M
-receive-spec = tie.close (tie.spec add-t5 idle-requires zero-requires gives-requires returns)
+receive-spec = tie.close (tie.spec add-t5 idle-requires sends-requires returns)

@@ -1,0 +1,4 @@
+pub mod ByRecord
+pub mod Filling
+pub mod OpenedTable
+pub mod Summed
