@@ -1,5 +1,4 @@
-mod Given
-mod Structs
+pub mod Structs
 mod Calls
-mod Slices
-mod Whole
+pub mod Slices
+pub mod Whole

@@ -33,9 +33,10 @@ use denote.Triple.Clauses.{lasts}
 use Rattle.purse.specs.declared.Purse.{Purse}
 use Rattle.desk.specs.declared.Desk.{Desk}
 use Rattle.desk.specs.declared.Answered.{Answered}
+use Rattle.desk.specs.declared.Figure.{Figure}
 use Rattle.bench.specs.declared.Acted.{Acted}
 use Rattle.rules.specs.Events.{decoded}
-use Rattle.rules.specs.Laid.{heldOk, heldOpening}
+use Rattle.rules.specs.Laid.{heldOk, heldOpening, heldClaims}
 use Rattle.bench.specs.Acts.{placeOf, actOn}
 use Rattle.lending.specs.declared.Reply.{Reply}
 use Rattle.lending.specs.Lent.{held, copiedOf, replacedOf}
@@ -47,6 +48,7 @@ use Rattle.desk.proofs.Desk as D
 use Rattle.desk.proofs.Desk.Laws as D′
 use Rattle.desk.proofs.Answered as R
 use Rattle.desk.proofs.Answered.Laws as R′
+use Rattle.desk.proofs.Figure as G
 use Rattle.bench.proofs.Acted as O
 use Rattle.bench.proofs.Acted.Laws as O′
 use Rattle.lending.proofs.Reply as Y
@@ -62,6 +64,8 @@ use Rattle.lending.proofs.steps.acted as acted
 use Rattle.lending.proofs.steps.acted.Symbol.{name as #lending·steps·acted}
 use Rattle.lending.proofs.steps.opened as opened
 use Rattle.lending.proofs.steps.opened.Symbol.{name as #lending·steps·opened}
+use Rattle.lending.proofs.steps.owed as owed
+use Rattle.lending.proofs.steps.owed.Symbol.{name as #lending·steps·owed}
 
 -- what a `&[T]` of a lifetime κ owns, at the list l
 abbrev pub Shared : (R : RattleType) → Lft → GName → ℕ → ℕ → List (R .Denot) → Fml
@@ -89,6 +93,12 @@ module _ {M : Type 1} (𝓤 : URA M) (H : Heap 𝓤) (A : Atoms 𝓤) (at-mem : 
 
   abbrev pub OpenedC : Contract 𝓤
   OpenedC = tripleOf 𝓤 H A opened.signature (opened.spec 𝓤 H A at-mem run)
+
+  abbrev pub OwedC : Contract 𝓤
+  OwedC = tripleOf 𝓤 H A owed.signature (owed.spec 𝓤 H A at-mem run)
+
+  abbrev pub to-owed : List Purse → Val → Desk → OwedC .Ghost
+  to-owed t v d = ((tt, tt, tt, (t, (d, tt)), (v ∷ [], (dval d ∷ [], tt))), tt)
 
   module _ (κ : Lft) (q : Share) (γ : GName) (b o : ℕ) where
     abbrev slice : {X : Type 0} → List X → RefT (List X)
@@ -191,3 +201,13 @@ module _ {M : Type 1} {𝓤 : URA M} {H : Heap 𝓤} {A : Atoms 𝓤} {K : Type 
         calls-at t fm (OpenedC 𝓤 H A at-mem run) known (to-opened 𝓤 H A at-mem run κ p γ b o h u d l) os (λ v.
         returned t tt (‵ (flft κ p) ⊛ ‵ ftrue) R.the-row _ (lasts opened.ended (κ, tt) (h, (d, (record { ptr = (b, o); name = γ; now = l }, tt)))) (λ r ws. r ≡ heldOpening (held h d) l) v (λ r ws e is.
         split t $ move t (2 ∷ 1 ∷ []) $ drop t $ drop t $ move t (1 ∷ 0 ∷ []) $ k v r is e))
+
+    -- `owed`: a table and a desk by value
+    pub calls-owed : Triple 𝓤 (C #lending·steps·owed) (OwedC 𝓤 H A at-mem run) → (h : List Purse) (u : Val) (d : Desk) → Is Table h (u ∷ []) → Is D.the-row d (dval d ∷ [])
+        → Opds K W (raw (OwedC 𝓤 H A at-mem run .pre (to-owed 𝓤 H A at-mem run h u d)) ∷ Γ) E xs (u ∷ dval d ∷ [])
+        → ((v : Val) (r : Figure) → Is G.the-row r (v ∷ []) → r ≡ heldClaims (held h d) → Seq K W Γ (lands C Λ E to v rest q))
+        → Seq K W Γ (runs C Λ E (seq (call #lending·steps·owed xs to) rest) q)
+    calls-owed known h u d h-is d-is os k =
+        nothing t $ owned t D.the-row (Is D.the-row) (LL.makes D.the-type D′.the-plain 𝓤 H A) d (dval d ∷ []) d-is $ fjoin t $ owned t Table (Is Table) (table-makes 𝓤 H A W) h (u ∷ []) h-is $ fjoin t $ nothing t $ asks t $
+        calls-at t fm (OwedC 𝓤 H A at-mem run) known (to-owed 𝓤 H A at-mem run h u d) os (λ v.
+        returned t tt (‵ ftrue) G.the-row _ (lasts owed.ended tt (h, (d, tt))) (λ r ws. r ≡ heldClaims (held h d)) v (λ r ws e is. drop t $ drop t $ k v r is e))

@@ -54,7 +54,8 @@ use Rattle.bench.specs.Acts.{placeOf, actOn, putBack, byRecord}
 use Rattle.lending.specs.declared.Reply.{Reply}
 use Rattle.lending.specs.Lent.{Left, held, leftBy}
 use Rattle.lent.proofs.Lent.{gone, if-test, opens-elem, shuts-elem, OpenAt, place-of, place-is, was-false, was-true, shares-slice, unshares-slice}
-use Rattle.lending.proofs.Given.{held-by-records, step-by-record, place-below}
+use Rattle.table.proofs.Held.{held-by-records}
+use Rattle.bench.proofs.ByRecord.{step-by-record, place-below}
 use Rattle.lending.proofs.Structs.{pval, psize, dval, reply, yval, reply-is, acted-fits, acted-purse-is, acted-desk-is}
 use Rattle.lending.proofs.Slices.{Shared, Lent, TableOkC, PlaceC, ActedC, calls-table-ok, calls-place, calls-acted}
 use Rattle.purse.proofs.Purse as T

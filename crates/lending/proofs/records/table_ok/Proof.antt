@@ -51,7 +51,7 @@ use Rattle.desk.specs.declared.Desk.{Desk}
 use Rattle.lending.specs.Lent.{held}
 use Rattle.rules.specs.Laid.{heldOk}
 use Rattle.table.specs.Records.{deskOk, recordOk, byRecords}
-use Rattle.lending.proofs.Given.{held-by-records}
+use Rattle.table.proofs.Held.{held-by-records}
 use Rattle.lent.proofs.Lent.{after, while-test, if-test, gone, place-of, place-is, if-false, not-not}
 use Rattle.lending.proofs.Structs.{pval, psize, dval}
 use Rattle.lending.proofs.Calls.{DeskOkC, RecordOkC, calls-desk-ok, calls-record-ok}
