@@ -2,16 +2,16 @@
 -- Why: on lists laid out in their places a read, a store, a message more or less and an entry more are those of the lists (the laws of
 -- Padded), and each kind's tests are the same numbers; a refusal puts back the record that was read.
 -- Assumes nothing.
-use Prim.Native.Nat.{ℕ, suc, _+_, _-_, _<_, _≤_}
-use mathlib.Core.Path.{_≡_, refl, _∙_, sym, ap}
-use mathlib.Core.Bool.{Bool, true, false, _&&_, cond}
+use Prim.Native.Nat.{ℕ, suc, _+_, _-_, _<_}
+use mathlib.Core.Path.{_≡_, _∙_, sym, ap}
+use mathlib.Core.Bool.{true, false, _&&_}
 use mathlib.Core.Logic.{⊎-elim}
 use mathlib.Core.List.{List, [], _∷_, _++_}
 use lib.ListN.{length, getD, take, drop, set, length-set, length-append, length-drop}
 use lib.Seq.{set-getD, length-take-le}
 use lib.Dec.{ltb, leb, eqb}
 use native.Mathlib.Omega.{arith}
-use borrow.Author.Tests.{leb-true, leb-false, ltb-true, ltb-false, le-leb, lt-ltb, eqb-true}
+use borrow.Author.Tests.{leb-true, leb-false, ltb-true, le-leb, lt-ltb}
 use Rattle.purse.specs.declared.Name.{Name}
 use Rattle.purse.specs.declared.Message.{Message}
 use Rattle.purse.specs.declared.Purse.{Purse}
@@ -32,14 +32,13 @@ use Rattle.desk.specs.declared.Answered.{Answered}
 use Rattle.desk.specs.Desk.{zeroEntry, added, takenOut, stored}
 use Rattle.rules.specs.declared.Event.{Event}
 use Rattle.rules.specs.declared.Event.the-variants.{Malformed, StartFrom, StartTo, Deliver, Abort, Lose, Collect}
-use Rattle.rules.specs.Bench.{Bench, called, purseAt, messageAt}
+use Rattle.rules.specs.Bench.{Bench, purseAt, messageAt}
 use Rattle.rules.specs.Table.{tableOk}
 use Rattle.rules.specs.Events.{decoded}
-use Rattle.rules.specs.Steps.{Answer, refused, withPurse, withMessages, withArchive, sending, carried, archiving, told, starting, delivering, aborting, losing, collecting, acting}
+use Rattle.rules.specs.Steps.{Answer, withPurse, sending, carried, archiving, told, starting, delivering, aborting, losing, collecting, acting}
 use Rattle.rules.specs.Laid.{laid, seen, placesOk, isZeroPurse, isZeroMessage, isZeroEntry, heldOk, heldStep}
 use Rattle.rules.proofs.Places.{laid-seen}
 use Rattle.rules.proofs.Facts.{Table, is-table}
-use Rattle.bench.specs.declared.Acted.{Acted}
 use Rattle.bench.specs.Acts.{placeIn, placeOf, refusedOn, startTests, deliverTests, purseTests, loseTests, sentOn, carriedOn, toldOn, lostOn, archivedOn, collectedOn, actOn, putBack, byRecord}
 
 -- an answer on the lists, laid out

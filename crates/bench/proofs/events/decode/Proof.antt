@@ -1,12 +1,10 @@
+-- `bench::events::decode` meets its contract: length and spare byte first, then the fields.
+-- Assumes nothing.
 use borrow.Author.Tests.{eq-eqb, ne-eqb}
 use Rattle.rules.specs.Events.{decoded}
 use borrow.Author.Needs.{needs}
 use Rattle.bench.proofs.events.decode.Statement.{statement}
 use Rattle.bench.proofs.events.decode.Tie as tie
-use Rattle.bench.proofs.events.decode.Reads as reads
-use Rattle.bench.proofs.events.decode.Lts as lts
-use Rattle.bench.proofs.events.fields.Reads as fields-reads
-use Rattle.bench.proofs.events.number.Reads as number-reads
 
 -- src/events.rt:86:9
 returns : tie.Need-returns
