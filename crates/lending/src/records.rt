@@ -19,10 +19,10 @@ pub fn table_ok(table: &[Purse], desk: Desk) -> bool
         return false;
     }
     let mut ok = desk_ok(desk);
-    let mut i = 0;
-    while i < 32 {
-        ok = ok & record_ok(table[i], i, desk);
-        i = i + 1;
+    let mut at = 0;
+    while at < 32 {
+        ok = ok & record_ok(table[at], at, desk);
+        at = at + 1;
     }
     ok
 }

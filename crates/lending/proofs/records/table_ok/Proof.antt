@@ -51,7 +51,7 @@ use Rattle.desk.specs.declared.Desk.{Desk}
 use Rattle.lending.specs.Lent.{held}
 use Rattle.rules.specs.Laid.{heldOk}
 use Rattle.table.specs.Records.{deskOk, recordOk, byRecords}
-use Rattle.table.proofs.Held.{held-by-records}
+use Rattle.table.proofs.Held.{held-by-records, more-every}
 use Rattle.lent.proofs.Lent.{after, while-test, if-test, gone, place-of, place-is, if-false, not-not}
 use Rattle.lending.proofs.Structs.{pval, psize, dval}
 use Rattle.lending.proofs.Calls.{DeskOkC, RecordOkC, calls-desk-ok, calls-record-ok}
@@ -71,16 +71,12 @@ use Rattle.lending.proofs.records.table_ok.Statement as stated
 use Rattle.lending.proofs.records.table_ok.Code as code
 use Rattle.lending.proofs.records.table_ok.Code.Mir as mir
 
-and-and : (a b c : Bool) → a && b && c ≡ a && (b && c)
-and-and true b c = refl
-and-and false b c = refl
-
 -- the desk and the first i records obey the rules
 abbrev upto : List Purse → Desk → ℕ → Bool
 upto l d i = deskOk d && every i (λ (j : ℕ). recordOk d j (getD l j zeroPurse))
 
 one-more : (l : List Purse) (d : Desk) (i : ℕ) (r : Bool) → r ≡ recordOk d i (getD l i zeroPurse) → upto l d i && r ≡ upto l d (i + 1)
-one-more l d i r e = rw (add-one i) (ap (λ (t : Bool). upto l d i && t) e ∙ and-and (deskOk d) (every i (λ (j : ℕ). recordOk d j (getD l j zeroPurse))) (recordOk d i (getD l i zeroPurse)))
+one-more l d i r e = more-every (λ (j : ℕ). recordOk d j (getD l j zeroPurse)) i (deskOk d) refl e
 
 none-yet : (d : Desk) (r : Bool) → r ≡ deskOk d → r ≡ deskOk d && true
 none-yet d true e = ap (λ (t : Bool). t && true) e
