@@ -10,7 +10,6 @@ use steps::acted;
 use steps::opened;
 use steps::owed;
 use steps::place;
-
 ghost use mathlib.Core.Path.{_≡_};
 ghost use Rattle.rules.specs.Laid.{heldStep, heldOpening, heldClaims};
 ghost use Rattle.lending.specs.Lent.{held, replyOf};
@@ -28,11 +27,9 @@ pub struct Reply {
 // An event.
 #[no_mangle]
 pub extern "C" fn bench_event(table: &mut [Purse], desk: Desk, event: &[u8]) -> Reply
-    ensures {
-        λ r.
+    ensures { λ r.
         ⌜ (r ≡ replyOf (heldStep (held (now (table .entry)) desk) (now (event .entry))))
-        × (now (table .exit) ≡ heldStep (held (now (table .entry)) desk) (now (event .entry)) .held .table) ⌝
-    }
+        × (now (table .exit) ≡ heldStep (held (now (table .entry)) desk) (now (event .entry)) .held .table) ⌝ }
 {
     if !table_ok(table, desk) {
         return Reply {
@@ -53,11 +50,9 @@ pub extern "C" fn bench_event(table: &mut [Purse], desk: Desk, event: &[u8]) -> 
 // A bench opened with these balances.
 #[no_mangle]
 pub extern "C" fn bench_opening(table: &mut [Purse], desk: Desk, balances: &[u32]) -> Reply
-    ensures {
-        λ r.
+    ensures { λ r.
         ⌜ (r ≡ replyOf (heldOpening (held (now (table .entry)) desk) (now (balances .entry))))
-        × (now (table .exit) ≡ heldOpening (held (now (table .entry)) desk) (now (balances .entry)) .held .table) ⌝
-    }
+        × (now (table .exit) ≡ heldOpening (held (now (table .entry)) desk) (now (balances .entry)) .held .table) ⌝ }
 {
     let by = opened(copied(table), desk, balances);
     replaced(table, desk, by)

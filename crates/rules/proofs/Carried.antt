@@ -136,9 +136,12 @@ module _ (bs : List ℕ) (es : List (List ℕ)) (ok : openingNumber bs ≡ 0) wh
   pub held-sum-safe : sumTo (length bs) (heldBalance (heldRun (laid (opened bs)) es)) ≤ sumTo (length bs) (heldBalance (laid (opened bs)))
   held-sum-safe =
       rw ran
-      (omega (arith, sum-safe bs es ok,
-      sum-same (length bs) (heldBalance (laid (run (opened bs) es))) (balanceAt (run (opened bs) es)) (λ (p : ℕ) (l : p < length bs). balance-laid (run (opened bs) es) p),
-      sum-same (length bs) (heldBalance (laid (opened bs))) (balanceAt (opened bs)) (λ (p : ℕ) (l : p < length bs). balance-laid (opened bs) p)))
+      (omega (
+        arith,
+        sum-safe bs es ok,
+        sum-same (length bs) (heldBalance (laid (run (opened bs) es))) (balanceAt (run (opened bs) es)) (λ (p : ℕ) (l : p < length bs). balance-laid (run (opened bs) es) p),
+        sum-same (length bs) (heldBalance (laid (opened bs))) (balanceAt (opened bs)) (λ (p : ℕ) (l : p < length bs). balance-laid (opened bs) p),
+      ))
 
   pub held-arrived-paid : (d : Details) → among sameDetails d (heldArrived (laid (opened bs)) es) ≡ true → among sameDetails d (heldPaid (laid (opened bs)) es) ≡ true
   held-arrived-paid = rw (moved-laid 2 (opened bs) es (opened-ok bs ok), moved-laid 1 (opened bs) es (opened-ok bs ok)) (arrived-paid bs es ok)

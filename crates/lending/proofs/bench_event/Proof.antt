@@ -29,7 +29,7 @@ use denote.RattleType.{owns}
 use denote.Laws.{Is}
 use denote.Memory.{cellAt, pointee}
 use denote.Plain.{Boolean, bool-lawful, uint-lawful}
-use denote.Builtin.{u8, usize}
+use denote.Builtin.{u8}
 use denote.Ref.{RefT}
 use denote.Slice.{sliceTy, sliceVal, slice-vals, MutSlice, mut-slice-tells, ShrSlice, shr-slice-tells, Room}
 use denote.Signature.{plain}
@@ -57,7 +57,7 @@ use Rattle.lent.proofs.Lent.{gone, if-test, opens-elem, shuts-elem, OpenAt, pla
 use Rattle.table.proofs.Held.{held-by-records}
 use Rattle.bench.proofs.ByRecord.{step-by-record, place-below}
 use Rattle.lending.proofs.Structs.{pval, psize, dval, reply, yval, reply-is, acted-fits, acted-purse-is, acted-desk-is}
-use Rattle.lending.proofs.Slices.{Shared, Lent, TableOkC, PlaceC, ActedC, calls-table-ok, calls-place, calls-acted}
+use Rattle.lending.proofs.Slices.{Shared, TableOkC, PlaceC, ActedC, calls-table-ok, calls-place, calls-acted}
 use Rattle.purse.proofs.Purse as T
 use Rattle.purse.proofs.Purse.Laws as T′
 use Rattle.desk.proofs.Desk as D
