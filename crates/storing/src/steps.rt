@@ -11,11 +11,9 @@ ghost use Rattle.layout.specs.Calls.{heldWrite, heldBuffer, heldRead};
 ghost use Rattle.lending.specs.Lent.{held};
 
 pub fn written(table: [Purse; 32], desk: Desk, out: &mut [u8]) -> Written
-    ensures {
-        λ r.
+    ensures { λ r.
         ⌜ (r ≡ heldWrite (held table desk) (now (out .entry)))
-        × (now (out .exit) ≡ heldBuffer (held table desk) (now (out .entry))) ⌝
-    }
+        × (now (out .exit) ≡ heldBuffer (held table desk) (now (out .entry))) ⌝ }
 {
     let all = Held {
         table: table,

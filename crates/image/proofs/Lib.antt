@@ -1,0 +1,5 @@
+pub mod Puts
+pub mod Gets
+pub mod Past
+pub mod Calls
+pub mod Unique
