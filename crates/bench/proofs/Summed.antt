@@ -27,9 +27,9 @@ use Rattle.rules.specs.Table.{tableOk, countsOk, purseOk, messageOk, archiveOk,
 use Rattle.rules.specs.Paid.{amountOf, claimedWith, claims}
 use Rattle.rules.specs.Laid.{seen, placesOk, isZeroPurse, isZeroMessage, isZeroEntry, heldOk}
 use Rattle.rules.proofs.Facts.{is-in}
+use Rattle.rules.proofs.Places.{seen-ok}
 use Rattle.table.proofs.Walks.{all-at, all-each}
 use Rattle.bench.specs.Claims.{archived, hit, claimOf, bounded}
-use Rattle.bench.proofs.ByRecord.{held-table}
 
 module _ (a : Archive) (long : length (a .places) ≡ 256) (few : a .count ≤ 256) (i : ℕ) where
   archived-length : length (archived a) ≡ a .count
@@ -137,7 +137,7 @@ module _ (h : Held) (w : heldOk h ≡ true) where
   here = seen h
 
   entries : all (archiveOk here) (here .archive) ≡ true
-  entries = entries-ok here (held-table h w)
+  entries = entries-ok here (seen-ok h w)
 
   pub held-few : h .desk .archive .count ≤ 256
   unfolding heldOk
