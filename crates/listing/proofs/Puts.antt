@@ -1,0 +1,78 @@
+-- Runs of bytes put one after the other are one run, and lines put one after the other are all the lines.
+-- Assumes nothing.
+use mathlib.Core.Path.{_≡_, refl, sym, ap, _∙_}
+use mathlib.Core.Bool.{Bool, true, false}
+use Prim.Native.Nat.{ℕ, zero, suc, _+_, _≤_, _<_}
+use native.Mathlib.Nat.{add-zero, add-assoc}
+use native.Mathlib.Numerals.{add-one}
+use native.Mathlib.Omega.{arith}
+use mathlib.Core.List.{List, [], _∷_, _++_, append-assoc, append-nil}
+use lib.ListN.{length, take, getD, set, length-append}
+use lib.Seq.{sets, length-sets, take-suc}
+use Rattle.listing.specs.Text.{put, Written, Filled, numbered}
+
+sets-append : (l : List ℕ) (i : ℕ) (vs ws : List ℕ) → sets (sets l i vs) (i + length vs) ws ≡ sets l i (vs ++ ws)
+sets-append l i [] ws = rw add-zero
+sets-append l i (v ∷ vs) ws =
+    let e : i + suc (length vs) ≡ suc i + length vs = omega arith in
+    rw e (sets-append (set l i v) (suc i) vs ws)
+
+-- nothing put
+pub put-nothing : (l : List ℕ) (at : ℕ) → Written l at [] at l
+unfolding put
+put-nothing l at = record { behind = sym (add-zero at); holds = refl }
+
+-- one byte put
+pub put-one : (l : List ℕ) (at v : ℕ) → Written l at (v ∷ []) (at + 1) (set l at v)
+unfolding put
+put-one l at v = record { behind = refl; holds = refl }
+
+pub length-put : (l : List ℕ) (at : ℕ) (vs : List ℕ) → length (put l at vs) ≡ length l
+unfolding put
+length-put l at vs = length-sets l at vs
+
+-- one run after another
+pub then : {l l₁ l₂ vs ws : List ℕ} {at j k : ℕ} → Written l at vs j l₁ → Written l₁ j ws k l₂ → Written l at (vs ++ ws) k l₂
+unfolding put
+then {l} {l₁} {l₂} {vs} {ws} {at} {j} {k} p q =
+    record {
+      behind = q .behind ∙ rw (p .behind, length-append vs ws) (add-assoc at (length vs) (length ws));
+      holds = q .holds ∙ rw (p .holds, p .behind) (sets-append l at vs ws);
+    }
+
+-- the same bytes, otherwise written
+pub same-bytes : {l l′ vs ws : List ℕ} {at j : ℕ} → vs ≡ ws → Written l at vs j l′ → Written l at ws j l′
+same-bytes {l} {l′} {vs} {ws} {at} {j} e p = rw e at p
+
+-- one byte more of a text
+pub text-more : {l l₁ : List ℕ} {at j : ℕ} (text : List ℕ) (i : ℕ) → i < length text → Written l at (take i text) j l₁
+    → Written l at (take (i + 1) text) (j + 1) (set l₁ j (getD text i 0))
+text-more {l} {l₁} {at} {j} text i h p = rw (add-one i, take-suc text i 0 h) (then p (put-one l₁ j (getD text i 0)))
+
+module _ {A : Type 0} (line : ℕ → A → List ℕ) where
+  numbered-append : (k : ℕ) (xs ys : List A) → numbered line k (xs ++ ys) ≡ numbered line k xs ++ numbered line (k + length xs) ys
+  unfolding numbered
+  numbered-append k [] ys = rw add-zero
+  numbered-append k (x ∷ xs) ys =
+      let e : k + suc (length xs) ≡ suc k + length xs = omega arith in
+      rw (e, append-assoc (line k x) (numbered line (suc k) xs) (numbered line (suc k + length xs) ys))
+      (ap (λ (t : List ℕ). line k x ++ t) (numbered-append (suc k) xs ys))
+
+  -- one line more
+  pub line-more : {l l₁ l₂ : List ℕ} {at j n : ℕ} (k : ℕ) (xs : List A) (i : ℕ) (d : A) → i < length xs
+      → length (take i xs) ≡ i
+      → Written l at (numbered line k (take i xs)) j l₁
+      → Written l₁ j (line (k + i) (getD xs i d)) n l₂
+      → Written l at (numbered line k (take (i + 1) xs)) n l₂
+  unfolding numbered
+  line-more k xs i d h e p q =
+      let m : numbered line k (take (i + 1) xs) ≡ numbered line k (take i xs) ++ line (k + i) (getD xs i d) =
+      rw (add-one i, take-suc xs i d h, numbered-append k (take i xs) (getD xs i d ∷ []), e, append-nil (line (k + i) (getD xs i d))) in
+      same-bytes (sym m) (then p q)
+
+-- a buffer filled from its start, and one that is too short
+pub filled : {b : Bool} {vs l l′ : List ℕ} {r : ℕ} → b ≡ true → Written l 0 vs r l′ → Filled b vs l r l′
+filled e p = rw e (p .behind ∙ omega arith, p .holds)
+
+pub not-filled : {b : Bool} (vs l : List ℕ) → b ≡ false → Filled b vs l 0 l
+not-filled vs l e = rw e (refl, refl)

@@ -1,0 +1,39 @@
+use Rattle.listing.specs.Listing.{eventLine}
+use Rattle.listing.proofs.Puts.{then}
+use borrow.Author.Needs.{needs}
+use Rattle.listing.proofs.lines.put_event.Statement.{statement}
+use Rattle.listing.proofs.lines.put_event.Tie as tie
+use Rattle.listing.proofs.lines.put_event.Reads as reads
+use Rattle.listing.proofs.lines.put_event.Lts as lts
+use Rattle.listing.proofs.text.put_byte.Reads as put-byte-reads
+use Rattle.listing.proofs.text.put_field.Reads as put-field-reads
+use Rattle.listing.proofs.text.put_number.Reads as put-number-reads
+
+-- src/lines.rt:37:9
+put-number-requires : tie.Need-put-number-requires
+put-number-requires c κs = search needs
+
+-- src/lines.rt:38:9
+put-field-requires : tie.Need-put-field-requires
+put-field-requires c κs = search needs
+
+-- src/lines.rt:39:5
+put-byte-requires : tie.Need-put-byte-requires
+put-byte-requires c κs = search needs
+
+-- src/lines.rt:32:1
+same-length : tie.Need-same-length
+same-length c = search needs
+
+-- src/lines.rt:32:1
+returns : tie.Need-returns
+unfolding eventLine
+returns c =
+    let called = c .before .before in
+    let fields = then (called .before .before .before .before .before .before .before .before .put-number .ensures .0) (called .before .before .before .before .put-field .ensures .0) in
+    (then fields (called .put-byte .ensures .0), search needs)
+
+pub put-event-spec : {M : Type 1} → statement M
+put-event-spec =
+    tie.close
+    (tie.spec put-number-requires put-field-requires put-byte-requires same-length returns)

@@ -1,0 +1,29 @@
+use Rattle.listing.proofs.Puts.{then}
+use borrow.Author.Needs.{needs}
+use Rattle.listing.proofs.text.put_field.Statement.{statement}
+use Rattle.listing.proofs.text.put_field.Tie as tie
+use Rattle.listing.proofs.text.put_field.Reads as reads
+use Rattle.listing.proofs.text.put_field.Lts as lts
+use Rattle.listing.proofs.text.put_byte.Reads as put-byte-reads
+use Rattle.listing.proofs.text.put_number.Reads as put-number-reads
+
+-- src/text.rt:70:9
+put-byte-requires : tie.Need-put-byte-requires
+put-byte-requires c κs = search needs
+
+-- src/text.rt:71:5
+put-number-requires : tie.Need-put-number-requires
+put-number-requires c κs = search needs
+
+-- src/text.rt:65:1
+same-length : tie.Need-same-length
+same-length c = search needs
+
+-- src/text.rt:65:1
+returns : tie.Need-returns
+returns c =
+    let called = c .before .before in
+    (then (called .before .before .before .before .put-byte .ensures .0) (called .put-number .ensures .0), search needs)
+
+pub put-field-spec : {M : Type 1} → statement M
+put-field-spec = tie.close (tie.spec put-byte-requires put-number-requires same-length returns)

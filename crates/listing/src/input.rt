@@ -1,0 +1,79 @@
+// The input's opening bytes: purse count, then 4 bytes a balance.
+use crate::Opening;
+ghost use mathlib.Core.Path.{_≡_};
+ghost use Prim.Native.Nat.{_+_, _*_, _≤_, _<_};
+ghost use lib.ListN.{length};
+ghost use Rattle.purse.specs.Lists.{padded};
+ghost use Rattle.rules.specs.Events.{number};
+ghost use Rattle.listing.specs.Opening.{numbers, balanceBytes, openingIn};
+
+fn wide(x: u8) -> u32
+    ensures { λ r. ⌜ (r ≡ x) × (r < 256) ⌝ }
+{
+    x as u32
+}
+
+fn number(l: &[u8], at: usize) -> u32
+    requires { ⌜ at + 4 ≤ length (now l) ⌝ }
+    ensures { λ r. ⌜ r ≡ number (now (l .entry)) at ⌝ }
+{
+    let a = wide(l[at]);
+    let b = wide(l[at + 1]);
+    let c = wide(l[at + 2]);
+    let d = wide(l[at + 3]);
+    ((a * 256 + b) * 256 + c) * 256 + d
+}
+
+// How many balance bytes follow a purse count: none behind a count that opening refuses.
+pub fn balance_bytes(count: u8) -> usize
+    ensures { λ r. ⌜ r ≡ balanceBytes count ⌝ }
+{
+    if count <= 32 { 4 * (count as usize) } else { 0 }
+}
+
+// As many balances, one after the other.
+fn balances(l: &[u8], count: usize) -> [u32; 32]
+    requires { ⌜ (count ≤ 32) × (1 + 4 * count ≤ length (now l)) ⌝ }
+    ensures { λ r. ⌜ r ≡ padded 32 0 (numbers count (now (l .entry)) 1) ⌝ }
+{
+    let mut all = [0u32; 32];
+    let mut i: usize = 0;
+    let mut from: usize = 1;
+    while i < count {
+        all[i] = number(l, from);
+        from += 4;
+        i += 1;
+    }
+    all
+}
+
+// Bytes of any length and content.
+pub fn read_opening(input: &[u8]) -> Opening
+    ensures { λ r. ⌜ r ≡ openingIn (now (input .entry)) ⌝ }
+{
+    if input.len() < 1 {
+        return Opening {
+            count: 0,
+            balances: [0; 32],
+        };
+    }
+    let count = input[0];
+    if 32 < count {
+        return Opening {
+            count: 0,
+            balances: [0; 32],
+        };
+    }
+    let n = count as usize;
+    if input.len() < 1 + 4 * n {
+        return Opening {
+            count: 0,
+            balances: [0; 32],
+        };
+    }
+    let all = balances(input, n);
+    Opening {
+        count: n,
+        balances: all,
+    }
+}
