@@ -1,15 +1,18 @@
 -- Numbers read one after the other, and laid on places.
 -- Assumes nothing.
 use mathlib.Core.Path.{_≡_, refl, sym, ap, _∙_}
-use Prim.Native.Nat.{ℕ, zero, suc, _+_, _-_, _*_, _<_, _≤_}
+use Prim.Native.Nat.{ℕ, zero, suc, _+_, _-_, _*_, _<_, _≤_, min}
 use mathlib.Core.Bool.{true, false}
 use native.Mathlib.Nat.{add-zero}
 use native.Mathlib.Numerals.{add-one}
 use native.Mathlib.Omega.{arith}
 use mathlib.Core.List.{List, [], _∷_, _++_}
-use lib.ListN.{length, getD, set, replicate, length-append}
-use borrow.Author.Tests.{lt-leb, le-leb}
-use lib.Seq.{set-append-seam, append-snoc}
+use mathlib.Core.Logic.{⊎-elim}
+use lib.Dec.{leb}
+use lib.ListN.{length, take, getD, set, replicate, length-append}
+use borrow.Author.Tests.{lt-leb, le-leb, leb-true, leb-false}
+use lib.Seq.{take-all, set-append-seam, append-snoc}
+use Rattle.purse.proofs.Bools.{which}
 use Rattle.purse.specs.Lists.{padded}
 use Rattle.rules.specs.Events.{number}
 use Rattle.listing.specs.declared.Opening.{Opening}
@@ -64,3 +67,14 @@ module _ (l : List ℕ) where
 -- no byte at all
 pub nothing-there : (l : List ℕ) → length l < 1 → record { count = 0; balances = replicate 32 0 } ≡ openingIn l
 nothing-there l h = let e : l ≡ [] = empty l h in rw e (too-few [] (omega arith) (omega arith))
+
+-- as many as there are, at most
+pub take-least : {A : Type 0} (n m : ℕ) (l : List A) → length l ≤ m → take (min n m) l ≡ take n l
+take-least n m l h =
+    ⊎-elim
+    (λ (e : leb n m ≡ true). let s : min n m ≡ n = omega (arith, leb-true n m e) in rw s)
+    (λ (e : leb n m ≡ false).
+    let s : min n m ≡ m = omega (arith, leb-false n m e) in
+    let k : length l ≤ n = omega (arith, leb-false n m e) in
+    rw s (take-all m l h ∙ sym (take-all n l k)))
+    (which (leb n m))

@@ -44,6 +44,10 @@ then {l} {l₁} {l₂} {vs} {ws} {at} {j} {k} p q =
 pub same-bytes : {l l′ vs ws : List ℕ} {at j : ℕ} → vs ≡ ws → Written l at vs j l′ → Written l at ws j l′
 same-bytes {l} {l′} {vs} {ws} {at} {j} e p = rw e at p
 
+-- a run of two parts after another
+pub then-two : (us vs ws : List ℕ) {l l₁ l₂ : List ℕ} {at j k : ℕ} → Written l at us j l₁ → Written l₁ j (vs ++ ws) k l₂ → Written l at (us ++ vs ++ ws) k l₂
+then-two us vs ws p q = same-bytes (sym (append-assoc us vs ws)) (then p q)
+
 -- one byte more of a text
 pub text-more : {l l₁ : List ℕ} {at j : ℕ} (text : List ℕ) (i : ℕ) → i < length text → Written l at (take i text) j l₁
     → Written l at (take (i + 1) text) (j + 1) (set l₁ j (getD text i 0))
@@ -59,15 +63,16 @@ module _ {A : Type 0} (line : ℕ → A → List ℕ) where
       (ap (λ (t : List ℕ). line k x ++ t) (numbered-append (suc k) xs ys))
 
   -- one line more
-  pub line-more : {l l₁ l₂ : List ℕ} {at j n : ℕ} (k : ℕ) (xs : List A) (i : ℕ) (d : A) → i < length xs
+  pub line-more : {l l₁ l₂ : List ℕ} {at j n name : ℕ} (k : ℕ) (xs : List A) (i : ℕ) (d : A) → i < length xs
       → length (take i xs) ≡ i
+      → name ≡ k + i
       → Written l at (numbered line k (take i xs)) j l₁
-      → Written l₁ j (line (k + i) (getD xs i d)) n l₂
+      → Written l₁ j (line name (getD xs i d)) n l₂
       → Written l at (numbered line k (take (i + 1) xs)) n l₂
   unfolding numbered
-  line-more k xs i d h e p q =
-      let m : numbered line k (take (i + 1) xs) ≡ numbered line k (take i xs) ++ line (k + i) (getD xs i d) =
-      rw (add-one i, take-suc xs i d h, numbered-append k (take i xs) (getD xs i d ∷ []), e, append-nil (line (k + i) (getD xs i d))) in
+  line-more {l} {l₁} {l₂} {at} {j} {n} {name} k xs i d h e s p q =
+      let m : numbered line k (take (i + 1) xs) ≡ numbered line k (take i xs) ++ line name (getD xs i d) =
+      rw (s, add-one i, take-suc xs i d h, numbered-append k (take i xs) (getD xs i d ∷ []), e, append-nil (line (k + i) (getD xs i d))) in
       same-bytes (sym m) (then p q)
 
 -- a buffer filled from its start, and one that is too short

@@ -1,7 +1,7 @@
 // The listing's foot: a line for each purse, and the last line with the counts and the claims figure.
 use crate::text::put_byte;
-use crate::text::put_field;
-use crate::text::put_text;
+use crate::text::put_named;
+use crate::text::put_two;
 use desk::Held;
 use purse::Purse;
 ghost use mathlib.Core.Path.{_≡_};
@@ -15,12 +15,9 @@ fn put_purse(out: &mut [u8], at: usize, name: usize, p: Purse) -> usize
     ensures { λ r. ⌜ Written (now (out .entry)) at (purseLine name p) r (now (out .exit)) ⌝ }
     ensures { λ r. ⌜ r ≤ at + 111 ⌝ }
 {
-    let to = put_text(out, at, b"purse");
-    let to = put_field(out, to, name as u64);
-    let to = put_field(out, to, p.balance.0 as u64);
-    let to = put_field(out, to, p.next.0 as u64);
-    let to = put_field(out, to, p.status as u64);
-    let to = put_field(out, to, p.logged as u64);
+    let to = put_named(out, at, b"purse", name as u64);
+    let to = put_two(out, to, p.balance.0 as u64, p.next.0 as u64);
+    let to = put_two(out, to, p.status as u64, p.logged as u64);
     put_byte(out, to, b'\n')
 }
 
@@ -44,12 +41,9 @@ fn put_last(out: &mut [u8], at: usize, messages: u16, archive: u16, claims: u32)
     requires { ⌜ at + 87 ≤ length (now out) ⌝ }
     ensures { λ r. ⌜ Written (now (out .entry)) at (lastLine messages archive claims) r (now (out .exit)) ⌝ }
 {
-    let to = put_text(out, at, b"messages");
-    let to = put_field(out, to, messages as u64);
-    let to = put_text(out, to, b" archive");
-    let to = put_field(out, to, archive as u64);
-    let to = put_text(out, to, b" claims");
-    let to = put_field(out, to, claims as u64);
+    let to = put_named(out, at, b"messages", messages as u64);
+    let to = put_named(out, to, b" archive", archive as u64);
+    let to = put_named(out, to, b" claims", claims as u64);
     put_byte(out, to, b'\n')
 }
 

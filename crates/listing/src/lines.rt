@@ -1,6 +1,7 @@
 // The listing's lines.
 use crate::text::put_byte;
 use crate::text::put_field;
+use crate::text::put_named;
 use crate::text::put_number;
 use crate::text::put_text;
 ghost use mathlib.Core.Path.{_≡_};
@@ -27,8 +28,7 @@ pub fn refused(out: &mut [u8], answer: u8) -> usize
     if out.len() < 29 {
         return 0;
     }
-    let to = put_text(out, 0, b"opening");
-    let to = put_field(out, to, answer as u64);
+    let to = put_named(out, 0, b"opening", answer as u64);
     put_byte(out, to, b'\n')
 }
 

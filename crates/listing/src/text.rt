@@ -1,7 +1,7 @@
 // Text and decimal numbers put into a buffer from a place on; each answers the place behind what it put.
 ghost use mathlib.Core.Path.{_≡_};
 ghost use Prim.Native.Nat.{_+_, _≤_, _<_};
-ghost use mathlib.Core.List.{_∷_, []};
+ghost use mathlib.Core.List.{_∷_, [], _++_};
 ghost use lib.ListN.{length};
 ghost use Rattle.listing.specs.Text.{Written, digits, decimal, field};
 
@@ -69,4 +69,23 @@ pub(crate) fn put_field(out: &mut [u8], at: usize, n: u64) -> usize
 {
     let to = put_byte(out, at, b' ');
     put_number(out, to, n)
+}
+
+// A text and a number behind it.
+pub(crate) fn put_named(out: &mut [u8], at: usize, text: &[u8], n: u64) -> usize
+    requires { ⌜ at + length (now text) + 21 ≤ length (now out) ⌝ }
+    ensures { λ r. ⌜ Written (now (out .entry)) at (now (text .entry) ++ field n) r (now (out .exit)) ⌝ }
+    ensures { λ r. ⌜ r ≤ at + length (now (text .entry)) + 21 ⌝ }
+{
+    let to = put_text(out, at, text);
+    put_field(out, to, n)
+}
+
+pub(crate) fn put_two(out: &mut [u8], at: usize, a: u64, b: u64) -> usize
+    requires { ⌜ at + 42 ≤ length (now out) ⌝ }
+    ensures { λ r. ⌜ Written (now (out .entry)) at (field a ++ field b) r (now (out .exit)) ⌝ }
+    ensures { λ r. ⌜ r ≤ at + 42 ⌝ }
+{
+    let to = put_field(out, at, a);
+    put_field(out, to, b)
 }

@@ -1,73 +1,68 @@
+use Rattle.listing.specs.Text.{field}
+use Rattle.listing.specs.Listing.{lastLine}
+use Rattle.listing.proofs.Puts.{then, then-two}
 use borrow.Author.Needs.{needs}
 use Rattle.listing.proofs.foot.put_last.Statement.{statement}
 use Rattle.listing.proofs.foot.put_last.Tie as tie
 use Rattle.listing.proofs.foot.put_last.Reads as reads
 use Rattle.listing.proofs.foot.put_last.Lts as lts
 use Rattle.listing.proofs.text.put_byte.Reads as put-byte-reads
-use Rattle.listing.proofs.text.put_field.Reads as put-field-reads
-use Rattle.listing.proofs.text.put_text.Reads as put-text-reads
+use Rattle.listing.proofs.text.put_named.Reads as put-named-reads
 
--- src/foot.rt:47:32
-slice-aggregate-put-text : tie.Need-slice-aggregate-put-text
-slice-aggregate-put-text c = search needs
+-- src/foot.rt:44:33
+slice-aggregate-put-named : tie.Need-slice-aggregate-put-named
+slice-aggregate-put-named c = search needs
 
--- src/foot.rt:47:9
-put-text-requires : tie.Need-put-text-requires
-put-text-requires c κs = search needs
+-- src/foot.rt:44:9
+put-named-requires : tie.Need-put-named-requires
+put-named-requires c κs = search needs
 
--- src/foot.rt:48:9
-put-field-requires : tie.Need-put-field-requires
-put-field-requires c κs = search needs
+-- src/foot.rt:45:33
+slice-aggregate-put-named-2 : tie.Need-slice-aggregate-put-named-2
+slice-aggregate-put-named-2 c = search needs
 
--- src/foot.rt:49:32
-slice-aggregate-put-text-2 : tie.Need-slice-aggregate-put-text-2
-slice-aggregate-put-text-2 c = search needs
+-- src/foot.rt:45:9
+put-named-requires-2 : tie.Need-put-named-requires-2
+put-named-requires-2 c κs = search needs
 
--- src/foot.rt:49:9
-put-text-requires-2 : tie.Need-put-text-requires-2
-put-text-requires-2 c κs = search needs
+-- src/foot.rt:46:33
+slice-aggregate-put-named-3 : tie.Need-slice-aggregate-put-named-3
+slice-aggregate-put-named-3 c = search needs
 
--- src/foot.rt:50:9
-put-field-requires-2 : tie.Need-put-field-requires-2
-put-field-requires-2 c κs = search needs
+-- src/foot.rt:46:9
+put-named-requires-3 : tie.Need-put-named-requires-3
+put-named-requires-3 c κs = search needs
 
--- src/foot.rt:51:32
-slice-aggregate-put-text-3 : tie.Need-slice-aggregate-put-text-3
-slice-aggregate-put-text-3 c = search needs
-
--- src/foot.rt:51:9
-put-text-requires-3 : tie.Need-put-text-requires-3
-put-text-requires-3 c κs = search needs
-
--- src/foot.rt:52:9
-put-field-requires-3 : tie.Need-put-field-requires-3
-put-field-requires-3 c κs = search needs
-
--- src/foot.rt:53:5
+-- src/foot.rt:47:5
 put-byte-requires : tie.Need-put-byte-requires
 put-byte-requires c κs = search needs
 
--- src/foot.rt:43:1
+-- src/foot.rt:40:1
 same-length : tie.Need-same-length
 same-length c = search needs
 
--- src/foot.rt:43:1
+-- src/foot.rt:40:1
 returns : tie.Need-returns
-returns c = cc
+unfolding lastLine
+returns c =
+    let called = c .before .before in
+    let claims = called .before .before .before .before in
+    let archive = claims .before .before .before .before .before in
+    let messages = archive .before .before .before .before .before in
+    let args = messages .before .before .before .before .args in
+    let counts = then-two _ _ (field (args .archive)) (messages .put-named .ensures .0) (archive .put-named2 .ensures .0) in
+    then (then-two _ _ (field (args .claims)) counts (claims .put-named3 .ensures .0)) (called .put-byte .ensures .0)
 
 pub put-last-spec : {M : Type 1} → statement M
 put-last-spec =
     tie.close
     (tie.spec
-    slice-aggregate-put-text
-    put-text-requires
-    put-field-requires
-    slice-aggregate-put-text-2
-    put-text-requires-2
-    put-field-requires-2
-    slice-aggregate-put-text-3
-    put-text-requires-3
-    put-field-requires-3
+    slice-aggregate-put-named
+    put-named-requires
+    slice-aggregate-put-named-2
+    put-named-requires-2
+    slice-aggregate-put-named-3
+    put-named-requires-3
     put-byte-requires
     same-length
     returns)

@@ -1,59 +1,58 @@
+use native.Mathlib.Omega.{arith}
+use Rattle.listing.specs.Text.{field}
+use Rattle.listing.specs.Listing.{purseLine}
+use Rattle.listing.proofs.Puts.{then, then-two}
 use borrow.Author.Needs.{needs}
 use Rattle.listing.proofs.foot.put_purse.Statement.{statement}
 use Rattle.listing.proofs.foot.put_purse.Tie as tie
 use Rattle.listing.proofs.foot.put_purse.Reads as reads
 use Rattle.listing.proofs.foot.put_purse.Lts as lts
 use Rattle.listing.proofs.text.put_byte.Reads as put-byte-reads
-use Rattle.listing.proofs.text.put_field.Reads as put-field-reads
-use Rattle.listing.proofs.text.put_text.Reads as put-text-reads
+use Rattle.listing.proofs.text.put_named.Reads as put-named-reads
+use Rattle.listing.proofs.text.put_two.Reads as put-two-reads
 
--- src/foot.rt:18:32
-slice-aggregate-put-text : tie.Need-slice-aggregate-put-text
-slice-aggregate-put-text c = search needs
+-- src/foot.rt:18:33
+slice-aggregate-put-named : tie.Need-slice-aggregate-put-named
+slice-aggregate-put-named c = search needs
 
 -- src/foot.rt:18:9
-put-text-requires : tie.Need-put-text-requires
-put-text-requires c κs = search needs
+put-named-requires : tie.Need-put-named-requires
+put-named-requires c κs = search needs
+
+-- src/foot.rt:19:31
+cast-put-two : tie.Need-cast-put-two
+cast-put-two c = search needs
+
+-- src/foot.rt:19:51
+cast-put-two-2 : tie.Need-cast-put-two-2
+cast-put-two-2 c = search needs
 
 -- src/foot.rt:19:9
-put-field-requires : tie.Need-put-field-requires
-put-field-requires c κs = search needs
+put-two-requires : tie.Need-put-two-requires
+put-two-requires c κs = search needs
 
--- src/foot.rt:20:33
-cast-put-field : tie.Need-cast-put-field
-cast-put-field c = search needs
+-- src/foot.rt:20:31
+cast-put-two-3 : tie.Need-cast-put-two-3
+cast-put-two-3 c = search needs
+
+-- src/foot.rt:20:48
+cast-put-two-4 : tie.Need-cast-put-two-4
+cast-put-two-4 c = search needs
 
 -- src/foot.rt:20:9
-put-field-requires-2 : tie.Need-put-field-requires-2
-put-field-requires-2 c κs = search needs
+put-two-requires-2 : tie.Need-put-two-requires-2
+put-two-requires-2 c κs =
+    let money = c .before .before .before .before .before in
+    let name = money .before .before .before .before .before .before in
+    omega (arith, money .put-two .ensures .1, money .put-two .kept .0, name .put-named .ensures .1, name .put-named .kept .0, name .before .before .before .before .pre)
 
--- src/foot.rt:21:33
-cast-put-field-2 : tie.Need-cast-put-field-2
-cast-put-field-2 c = search needs
-
--- src/foot.rt:21:9
-put-field-requires-3 : tie.Need-put-field-requires-3
-put-field-requires-3 c κs = search needs
-
--- src/foot.rt:22:33
-cast-put-field-3 : tie.Need-cast-put-field-3
-cast-put-field-3 c = search needs
-
--- src/foot.rt:22:9
-put-field-requires-4 : tie.Need-put-field-requires-4
-put-field-requires-4 c κs = search needs
-
--- src/foot.rt:23:33
-cast-put-field-4 : tie.Need-cast-put-field-4
-cast-put-field-4 c = search needs
-
--- src/foot.rt:23:9
-put-field-requires-5 : tie.Need-put-field-requires-5
-put-field-requires-5 c κs = search needs
-
--- src/foot.rt:24:5
+-- src/foot.rt:21:5
 put-byte-requires : tie.Need-put-byte-requires
-put-byte-requires c κs = search needs
+put-byte-requires c κs =
+    let state = c .before .before .before in
+    let money = state .before .before .before .before .before .before in
+    let name = money .before .before .before .before .before .before in
+    omega (arith, state .put-two2 .ensures .1, state .put-two2 .kept .0, money .put-two .ensures .1, money .put-two .kept .0, name .put-named .ensures .1, name .put-named .kept .0, name .before .before .before .before .pre)
 
 -- src/foot.rt:13:1
 same-length : tie.Need-same-length
@@ -61,23 +60,31 @@ same-length c = search needs
 
 -- src/foot.rt:13:1
 returns : tie.Need-returns
-returns c = cc
+unfolding purseLine
+returns c =
+    let called = c .before .before in
+    let state = called .before .before .before .before in
+    let money = state .before .before .before .before .before .before in
+    let name = money .before .before .before .before .before .before in
+    let p = name .before .before .before .before .args .p in
+    let first = then-two _ (field (p .balance .0)) (field (p .next .0)) (name .put-named .ensures .0) (money .put-two .ensures .0) in
+    let fields = then-two _ (field (p .status)) (field (p .logged)) first (state .put-two2 .ensures .0) in (
+      then fields (called .put-byte .ensures .0),
+      omega (arith, called .put-byte .ensures .1, state .put-two2 .ensures .1, money .put-two .ensures .1, name .put-named .ensures .1),
+    )
 
 pub put-purse-spec : {M : Type 1} → statement M
 put-purse-spec =
     tie.close
     (tie.spec
-    slice-aggregate-put-text
-    put-text-requires
-    put-field-requires
-    cast-put-field
-    put-field-requires-2
-    cast-put-field-2
-    put-field-requires-3
-    cast-put-field-3
-    put-field-requires-4
-    cast-put-field-4
-    put-field-requires-5
+    slice-aggregate-put-named
+    put-named-requires
+    cast-put-two
+    cast-put-two-2
+    put-two-requires
+    cast-put-two-3
+    cast-put-two-4
+    put-two-requires-2
     put-byte-requires
     same-length
     returns)

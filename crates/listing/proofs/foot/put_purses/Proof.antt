@@ -1,3 +1,14 @@
+use Prim.Native.Nat.{ℕ, _≤_, _<_, _-_, _+_, _*_}
+use native.Mathlib.Omega.{arith}
+use mathlib.Core.Path.{_≡_, refl, _∙_}
+use mathlib.Core.List.{[]}
+use lib.ListN.{length, take}
+use lib.Seq.{length-take-le}
+use Rattle.purse.specs.declared.Purse.{Purse}
+use Rattle.purse.specs.Details.{zeroDetails}
+use Rattle.listing.specs.Text.{Written, numbered}
+use Rattle.listing.specs.Listing.{purseLine}
+use Rattle.listing.proofs.Puts.{put-nothing, line-more}
 use borrow.Author.Needs.{needs}
 use Rattle.listing.proofs.foot.put_purses.Statement.{statement}
 use Rattle.listing.proofs.foot.put_purses.Tie as tie
@@ -5,15 +16,29 @@ use Rattle.listing.proofs.foot.put_purses.Reads as reads
 use Rattle.listing.proofs.foot.put_purses.Lts as lts
 use Rattle.listing.proofs.foot.put_purse.Reads as put-purse-reads
 
+-- what the checker takes for an element past the table's end
+abbrev pastPurse : Purse
+pastPurse =
+    record {
+      balance = record { 0 = 0 };
+      next = record { 0 = 0 };
+      status = 0;
+      details = zeroDetails;
+      log = [];
+      logged = 0;
+    }
+
 abbrev Inv-loop : tie.InvT-loop
-Inv-loop out₀ count table i₀ to₀ out i to = ?
+Inv-loop out₀ count table i₀ to₀ out i to =
+    (i ≤ count) × (to ≤ 111 * i) × Written out₀ 0 (numbered purseLine 0 (take i table)) to out × (length out ≡ length out₀)
 
 abbrev μ-loop : tie.MeasureT-loop
-μ-loop out₀ count table i₀ to₀ out i to = ?
+μ-loop out₀ count table i₀ to₀ out i to = count - i
 
 -- src/foot.rt:35:5
 loop-holds : tie.Need-loop-holds Inv-loop μ-loop
-loop-holds c = ?
+unfolding numbered
+loop-holds c = (omega arith, omega arith, put-nothing _ _, refl)
 
 -- src/foot.rt:36:17
 mul-p : tie.Need-mul-p Inv-loop μ-loop
@@ -37,7 +62,20 @@ loop-less c = search needs
 
 -- src/foot.rt:35:5
 loop-again : tie.Need-loop-again Inv-loop μ-loop
-loop-again c = ?
+loop-again c =
+    let called = c .before .before in
+    let at-loop = called .before .before .before .before in
+    let inv = at-loop .loop .inv in
+    let i = at-loop .loop .i in
+    let table = at-loop .before .before .args .t2 in
+    let n : ℕ = length table in
+    let long : n ≡ 32 = search needs in
+    let more : i < length table = omega arith in (
+      omega arith,
+      omega arith,
+      line-more purseLine 0 table i pastPurse more (length-take-le i table (omega arith)) (omega arith) (inv .2) (called .put-purse .ensures .0),
+      called .put-purse .kept .0 ∙ inv .3,
+    )
 
 -- src/foot.rt:28:1
 same-length : tie.Need-same-length Inv-loop μ-loop
@@ -45,7 +83,10 @@ same-length c = search needs
 
 -- src/foot.rt:28:1
 returns : tie.Need-returns Inv-loop μ-loop
-returns c = cc
+returns c =
+    let at-loop = c .before in
+    let all : at-loop .loop .i ≡ at-loop .before .before .args .count = omega arith in
+    (rw all at (at-loop .loop .inv .2), omega arith)
 
 pub put-purses-spec : {M : Type 1} → statement M
 put-purses-spec =

@@ -84,12 +84,11 @@ loop-again c =
     let args = at-loop .before .before .before .before .before .args in
     let i = at-loop .loop .i in
     let answers = args .answers .now in
-    let more : i < length answers = omega arith in
-    let line = rw (inv .1) at (called .put-event .ensures .0) in (
+    let more : i < length answers = omega arith in (
       omega arith,
       omega arith,
       omega arith,
-      line-more eventLine (args .first) answers i 0 more (length-take-le i answers (omega arith)) (inv .3) line,
+      line-more eventLine (args .first) answers i 0 more (length-take-le i answers (omega arith)) (inv .1) (inv .3) (called .put-event .ensures .0),
       called .put-event .kept .0 ∙ inv .4,
     )
 
