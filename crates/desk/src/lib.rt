@@ -1,9 +1,14 @@
 // What the bench holds beside its table of purses: the ether (the messages that stand), the issuer's archive, and the purse count.
 // Each changes by value: a method takes it and hands back its next state.
+mod entries;
+mod messages;
+
 use purse::Details;
 use purse::Message;
 use purse::Name;
 use purse::Purse;
+ghost use mathlib.Core.Path.{_≡_};
+ghost use Rattle.desk.specs.Desk.{openedDesk};
 
 // A log entry that the issuer has collected, and the purse that logged it.
 #[repr(C)]
@@ -59,4 +64,19 @@ pub struct Answered {
 pub struct Figure {
     pub answer: u8,
     pub claims: u32,
+}
+
+impl Desk {
+    // The desk of an opened bench of so many purses.
+    pub fn opened(purses: u8) -> Desk
+        ensures { λ r. ⌜ r ≡ openedDesk purses ⌝ }
+    {
+        let ether = Ether::empty();
+        let archive = Archive::empty();
+        Desk {
+            purses: purses,
+            ether: ether,
+            archive: archive,
+        }
+    }
 }

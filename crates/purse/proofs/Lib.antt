@@ -6,3 +6,5 @@ pub mod Log
 pub mod Rules
 pub mod Steps
 pub mod Keep
+pub mod Count
+pub mod Padded

@@ -1,0 +1,4 @@
+pub mod Puts
+pub mod Gets
+pub mod Coded
+pub mod Trips

@@ -1,0 +1,55 @@
+use native.Mathlib.Omega.{arith}
+use native.Mathlib.Nat.{add-zero}
+use Rattle.codec.specs.Bytes.{numberAt}
+use borrow.Author.Needs.{needs}
+use Rattle.codec.proofs.numbers.get_count.Statement.{statement}
+use Rattle.codec.proofs.numbers.get_count.Tie as tie
+use Rattle.codec.proofs.numbers.get_count.Reads as reads
+use Rattle.codec.proofs.numbers.get_count.Lts as lts
+use Rattle.codec.proofs.numbers.wide_count.Reads as wide-count-reads
+
+-- src/numbers.rt:54:24
+shared-slice-read-wide-count : tie.Need-shared-slice-read-wide-count
+shared-slice-read-wide-count c = search needs
+
+-- src/numbers.rt:54:9
+wide-count-requires : tie.Need-wide-count-requires
+wide-count-requires c κs = search needs
+
+-- src/numbers.rt:55:26
+add-wide-count : tie.Need-add-wide-count
+add-wide-count c = search needs
+
+-- src/numbers.rt:55:24
+shared-slice-read-wide-count-2 : tie.Need-shared-slice-read-wide-count-2
+shared-slice-read-wide-count-2 c = search needs
+
+-- src/numbers.rt:55:9
+wide-count-requires-2 : tie.Need-wide-count-requires-2
+wide-count-requires-2 c κs = search needs
+
+-- src/numbers.rt:56:5
+mul-result : tie.Need-mul-result
+mul-result c = search needs
+
+-- src/numbers.rt:56:5
+add-result : tie.Need-add-result
+add-result c = search needs
+
+-- src/numbers.rt:50:1
+returns : tie.Need-returns
+unfolding numberAt
+returns c = simp add-zero (omega arith)
+
+pub get-count-spec : {M : Type 1} → statement M
+get-count-spec =
+    tie.close
+    (tie.spec
+    shared-slice-read-wide-count
+    wide-count-requires
+    add-wide-count
+    shared-slice-read-wide-count-2
+    wide-count-requires-2
+    mul-result
+    add-result
+    returns)

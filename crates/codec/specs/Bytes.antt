@@ -1,0 +1,42 @@
+-- Bytes: a number written with its highest byte first and read back, over the width; a list's elements one after the other; a buffer with
+-- other bytes from a place on.
+use Prim.Native.Nat.{ℕ, zero, suc, _+_, _*_, _/_, _%_}
+use mathlib.Core.List.{List, [], _∷_, _++_}
+use lib.ListN.{getD}
+use lib.Seq.{sets}
+
+-- a buffer with the bytes vs from place i on
+unfoldable pub put : List ℕ → ℕ → List ℕ → List ℕ
+put l i vs = sets l i vs
+
+-- one byte
+abbrev pub byte : ℕ → List ℕ
+byte b = b ∷ []
+
+abbrev pub byteAt : List ℕ → ℕ → ℕ
+byteAt l at = getD l at 0
+
+-- "all big-endian": a number in w bytes, the highest first
+unfoldable pub big : ℕ → ℕ → List ℕ
+big zero n = []
+big (suc w) n = big w (n / 256) ++ (n % 256 ∷ [])
+
+-- the number that w bytes at a place spell
+unfoldable pub numberAt : ℕ → List ℕ → ℕ → ℕ
+numberAt zero l at = 0
+numberAt (suc w) l at = numberAt w l at * 256 + getD l (at + w) 0
+
+-- how many numbers w bytes can spell
+abbrev pub room : ℕ → ℕ
+room zero = 1
+room (suc w) = room w * 256
+
+-- the bytes of each of a list, one after the other
+unfoldable pub flat : {A : Type 0} → (A → List ℕ) → List A → List ℕ
+flat f [] = []
+flat f (x ∷ xs) = f x ++ flat f xs
+
+-- n values read one after the other, each w bytes long
+unfoldable pub many : {A : Type 0} → (List ℕ → ℕ → A) → ℕ → ℕ → List ℕ → ℕ → List A
+many g w zero l at = []
+many g w (suc n) l at = g l at ∷ many g w n l (at + w)

@@ -1,0 +1,108 @@
+-- "At the edges": the lines of document 01 that are proved of the rules, one table under one statement, by computation.
+-- Assumes nothing.
+use Prim.Native.Nat.{ℕ, zero, suc, _/_, _%_}
+use mathlib.Core.Path.{_≡_, refl}
+use mathlib.Core.List.{List, [], _∷_, _++_, map}
+use Rattle.purse.specs.declared.Details.{Details}
+use Rattle.purse.specs.Lists.{padded}
+use Rattle.purse.specs.Details.{zeroDetails, sameDetails, sameMessage, legal, named, asPayer, asPayee, entryOk, absent}
+use Rattle.purse.specs.Purse.{logPlaces, idleOk, busyOk, placeOk, logOk, wellFormed}
+use Rattle.purse.specs.Step.{startNumber, fromNumber, toNumber, expected, deliverNumber, abortNumber, collectNumber, startFrom, startTo, deliverTo, abortBy, collectBy}
+use Rattle.rules.specs.Bench.{Bench, called}
+use Rattle.rules.specs.Table.{countsOk, inTable, purseOk, messageOk, archiveOk, onceOk, clearOk, tableOk}
+use Rattle.rules.specs.Events.{decoded}
+use Rattle.rules.specs.Steps.{acting, step}
+use Rattle.rules.specs.Run.{opened, openedAt, run}
+
+-- a number's four bytes, and an event's twelve
+abbrev word : ℕ → List ℕ
+word n = n / 16777216 ∷ n / 65536 % 256 ∷ n / 256 % 256 ∷ n % 256 ∷ []
+
+abbrev pub event : ℕ → ℕ → ℕ → ℕ → ℕ → List ℕ
+event kind purse other num amount = (kind ∷ purse ∷ other ∷ 0 ∷ []) ++ word num ++ word amount
+
+-- purse p starts a payment to, or from, purse o, whose number is 1
+abbrev pub from : ℕ → ℕ → ℕ → List ℕ
+from p o amount = event 1 p o 1 amount
+
+abbrev pub to : ℕ → ℕ → ℕ → List ℕ
+to p o amount = event 2 p o 1 amount
+
+-- purse p gets the message at place i
+abbrev pub delivery : ℕ → ℕ → List ℕ
+delivery p i = event 3 p 0 i 0
+
+-- a payment by purse 0 to purse 1
+abbrev pub payment : ℕ → ℕ → ℕ → Details
+payment payerseq payeeseq amount =
+    record {
+      payer = called 0;
+      payerseq = record { 0 = payerseq };
+      payee = called 1;
+      payeeseq = record { 0 = payeeseq };
+      amount = record { 0 = amount };
+    }
+
+-- payments of purse 0 with its numbers 1 to n
+abbrev payments : ℕ → List Details
+payments zero = []
+payments (suc n) = payments n ++ (payment (suc n) 1 5 ∷ [])
+
+-- purse 0 idle with a balance, a next number and n log entries, and an opened purse 1
+abbrev pub pair : ℕ → ℕ → ℕ → Bench
+pair balance next n =
+    record {
+      purses =
+          record {
+            balance = record { 0 = balance };
+            next = record { 0 = next };
+            status = 0;
+            details = zeroDetails;
+            log = padded logPlaces zeroDetails (payments n);
+            logged = n;
+          }
+          ∷ openedAt 0 ∷ [];
+      messages = [];
+      archive = [];
+    }
+
+-- what stands, what happens, and the number that document 01 gives
+pub record Case : Type 0 where
+  pub bench : Bench
+  pub event : List ℕ
+  pub number : ℕ
+
+abbrev at : Bench → List ℕ → ℕ → Case
+at b e n = record { bench = b; event = e; number = n }
+
+-- purse 0 has paid 300 to purse 1, and the value has arrived
+abbrev arrived : Bench
+arrived = run (opened (1000 ∷ 200 ∷ [])) (from 0 1 300 ∷ to 1 0 300 ∷ delivery 0 0 ∷ delivery 1 1 ∷ [])
+
+abbrev pub cases : List Case
+cases =
+    -- amount 0, 1, 5,000,001
+    at (pair 300 1 0) (from 0 1 0) 7
+    ∷ at (pair 300 1 0) (from 0 1 1) 0
+    ∷ at (pair 300 1 0) (from 0 1 5000001) 7
+    -- balance 300, start-from 300, 301
+    ∷ at (pair 300 1 0) (from 0 1 300) 0
+    ∷ at (pair 300 1 0) (from 0 1 301) 11
+    -- payee balance 4,999,700, start-to 300, 301
+    ∷ at (pair 4999700 1 0) (to 0 1 300) 0
+    ∷ at (pair 4999700 1 0) (to 0 1 301) 12
+    -- next 4,294,967,294 and 4,294,967,295
+    ∷ at (pair 300 4294967294 0) (from 0 1 1) 0
+    ∷ at (pair 300 4294967295 0) (from 0 1 1) 9
+    -- 7 and 8 log entries
+    ∷ at (pair 300 8 7) (from 0 1 1) 0
+    ∷ at (pair 300 9 8) (from 0 1 1) 10
+    -- a start with itself and amount 0
+    ∷ at (pair 300 1 0) (from 0 0 0) 6
+    -- the same value delivered again
+    ∷ at arrived (delivery 1 1) 13
+    ∷ []
+
+pub edges : map (λ (c : Case). step (c .bench) (c .event) .answer) cases ≡ map (λ (c : Case). c .number) cases
+unfolding sameDetails legal named asPayer asPayee entryOk absent idleOk busyOk placeOk logOk wellFormed startNumber fromNumber toNumber expected deliverNumber abortNumber collectNumber startFrom startTo deliverTo abortBy collectBy sameMessage countsOk inTable purseOk messageOk archiveOk onceOk clearOk tableOk decoded acting step
+edges = refl

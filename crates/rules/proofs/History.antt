@@ -1,0 +1,552 @@
+-- The history of a bench: what was paid and what arrived beside what the purses hold. Each move keeps these facts.
+-- P and A are the details paid and arrived so far; every fact but the money is about how often details stand somewhere.
+-- Assumes nothing.
+use Prim.Native.Nat.{ℕ, _+_, _≤_, _<_}
+use mathlib.Core.Path.{_≡_, refl, _∙_, sym, ap}
+use mathlib.Core.Bool.{true, false, not, cond}
+use mathlib.Core.Logic.{_⊎_, inl, inr, ⊎-elim}
+use mathlib.Core.List.{List, [], _∷_, _++_, append-nil, append-assoc}
+use lib.ListN.{length, getD}
+use lib.Dec.{leb, eqb}
+use native.Mathlib.Omega.{arith}
+use borrow.Author.Tests.{leb-true, leb-false, eq-eqb, ne-eqb}
+use Rattle.purse.specs.declared.Name.{Name}
+use Rattle.purse.specs.declared.Seq.{Seq}
+use Rattle.purse.specs.declared.Amount.{Amount}
+use Rattle.purse.specs.declared.Details.{Details}
+use Rattle.purse.specs.declared.Message.{Message}
+use Rattle.purse.specs.declared.Purse.{Purse}
+use Rattle.purse.specs.Details.{zeroDetails, zeroMessage, sameDetails, sameMessage}
+use Rattle.purse.specs.Step.{stopped, taken}
+use Rattle.purse.specs.Lists.{keep, total, without}
+use Rattle.purse.proofs.Rules.{can-pay}
+use Rattle.purse.proofs.Bools.{which, refute}
+use Rattle.purse.proofs.Payments.{is-same}
+use Rattle.purse.proofs.Count.{none, bit, bit-le, bit-yes, times-append, times-split, total-append, keep-append}
+use Rattle.desk.specs.declared.Entry.{Entry}
+use Rattle.rules.specs.Bench.{Bench, called, purseAt, kept, archivedBy, isAt, balanceAt}
+use Rattle.rules.specs.Table.{tableOk}
+use Rattle.rules.specs.Steps.{withPurse, withMessages, withArchive, step}
+use Rattle.rules.specs.Run.{run}
+use Rattle.rules.specs.Paid.{amountOf, moved, movedBy, paid, arrived, paidOut, takenIn}
+use Rattle.rules.proofs.Facts.{details-equal, details-same, countD, countM, MessageOk, Table, is-table}
+use Rattle.rules.proofs.Puts.{put-cases, Grown, grown-put, at-end, archived-end}
+use Rattle.rules.proofs.Purses.{OwnPayer, OwnPayee, payer-role, payee-role, busy-apart, status-high, kept-stopped, kept-taken}
+use Rattle.rules.proofs.Moves.{fromOf, toOf, messageOf, begunFrom, begunTo, payerAfter, payeeAfter, idleAfter, Started, Taking, Sent, Good, Moves, step-moves}
+use Rattle.rules.proofs.Kept.{fresh-to, keep-step}
+
+-- how often: the payer in epr, the payer in epa, the payee in epv with d; the payer, the payee has logged d
+abbrev pub epr : Bench → Details → ℕ
+epr b d = bit (isAt 1 (purseAt b (d .payer .0)) d)
+
+abbrev pub epa : Bench → Details → ℕ
+epa b d = bit (isAt 3 (purseAt b (d .payer .0)) d)
+
+abbrev pub epv : Bench → Details → ℕ
+epv b d = bit (isAt 2 (purseAt b (d .payee .0)) d)
+
+abbrev pub payerLog : Bench → Details → ℕ
+payerLog b d = countD d (kept (purseAt b (d .payer .0))) + countD d (archivedBy (d .payer .0) (b .archive))
+
+abbrev pub payeeLog : Bench → Details → ℕ
+payeeLog b d = countD d (kept (purseAt b (d .payee .0))) + countD d (archivedBy (d .payee .0) (b .archive))
+
+-- both purses are in the table and have used their numbers
+pub record Placed (b : Bench) (d : Details) : Type 0 where
+  pub payer : d .payer .0 < length (b .purses)
+  pub payee : d .payee .0 < length (b .purses)
+  pub payerseq : d .payerseq .0 < purseAt b (d .payer .0) .next .0
+  pub payeeseq : d .payeeseq .0 < purseAt b (d .payee .0) .next .0
+
+-- what a message that stands is backed by
+pub record Backed (b : Bench) (P A : List Details) (m : Message) : Type 0 where
+  pub request : m .kind ≡ 1 → 1 ≤ epv b (m .details) + payeeLog b (m .details) + countD (m .details) A
+  pub value : m .kind ≡ 2 → 1 ≤ countD (m .details) P
+  pub acknowledge : m .kind ≡ 3 → 1 ≤ countD (m .details) A
+
+-- what one payment's seven numbers satisfy: in epr, in epa, in epv, logged by the payer, logged by the payee, paid, arrived
+pub record Counts (epr epa epv payerLog payeeLog paid arrived : ℕ) : Type 0 where
+  pub unpaid : epr + paid ≤ 1
+  pub held : epa + payerLog ≤ paid
+  pub owed : paid ≤ epa + payerLog + arrived
+  pub due : epv + payeeLog + arrived ≤ 1
+  pub got : paid ≤ epv + payeeLog + arrived
+  pub within : arrived ≤ paid
+
+-- those numbers at a bench, with so often paid and arrived
+abbrev pub CountsAt : Bench → Details → ℕ → ℕ → Type 0
+CountsAt b d n m = Counts (epr b d) (epa b d) (epv b d) (payerLog b d) (payeeLog b d) n m
+
+pub record History (opening : ℕ → ℕ) (b : Bench) (P A : List Details) : Type 0 where
+  pub money : (p : ℕ) → p < length (b .purses) → balanceAt b p + paidOut p P ≡ opening p + takenIn p A
+  pub placed : (d : Details) → 1 ≤ countD d P → Placed b d
+  pub counts : (d : Details) → CountsAt b d (countD d P) (countD d A)
+  pub backed : (m : Message) → 1 ≤ countM m (b .messages) → Backed b P A m
+
+-- the same facts after a move that paid x and by which y arrived
+record Next (b : Bench) (P A : List Details) (c : Bench) (x y : List Details) : Type 0 where
+  grown : Grown b c
+  money : (p : ℕ) → p < length (b .purses) → balanceAt c p + paidOut p x ≡ balanceAt b p + takenIn p y
+  placed : (d : Details) → 1 ≤ countD d x → Placed c d
+  counts : (d : Details) → CountsAt c d (countD d P + countD d x) (countD d A + countD d y)
+  rises : (d : Details) → epv b d + payeeLog b d + countD d A ≤ epv c d + payeeLog c d + (countD d A + countD d y)
+  backed : (m : Message) → 1 ≤ countM m (c .messages) → (1 ≤ countM m (b .messages)) ⊎ Backed c (P ++ x) (A ++ y) m
+
+-- the purses alone decide it
+grown-with : {b c : Bench} (ms : List Message) (es : List Entry) → Grown b c → Grown b (record { purses = c .purses; messages = ms; archive = es })
+grown-with ms es g = record { same = g .same; next = g .next }
+
+placed-later : {b c : Bench} {d : Details} → Grown b c → Placed b d → Placed c d
+placed-later {b} {c} {d} g k =
+    record {
+      payer = omega (arith, g .same, k .payer);
+      payee = omega (arith, g .same, k .payee);
+      payerseq = omega (arith, g .next (d .payer .0), k .payerseq);
+      payeeseq = omega (arith, g .next (d .payee .0), k .payeeseq);
+    }
+
+after : {opening : ℕ → ℕ} {b : Bench} {P A : List Details} {c : Bench} {x y : List Details} → History opening b P A → Next b P A c x y → History opening c (P ++ x) (A ++ y)
+after {opening} {b} {P} {A} {c} {x} {y} h n =
+    let tp : (d : Details) → countD d (P ++ x) ≡ countD d P + countD d x = λ (d : Details). times-append sameDetails d P x in
+    let ta : (d : Details) → countD d (A ++ y) ≡ countD d A + countD d y = λ (d : Details). times-append sameDetails d A y in
+    record {
+      money =
+          λ (p : ℕ) (l : p < length (c .purses)).
+          let lb : p < length (b .purses) = omega (arith, n .grown .same) in
+          let ep : paidOut p (P ++ x) ≡ paidOut p P + paidOut p x =
+          ap (total amountOf) (keep-append (λ (d : Details). eqb (d .payer .0) p) P x) ∙ total-append amountOf (keep (λ (d : Details). eqb (d .payer .0) p) P) (keep (λ (d : Details). eqb (d .payer .0) p) x)
+          in
+          let ea : takenIn p (A ++ y) ≡ takenIn p A + takenIn p y =
+          ap (total amountOf) (keep-append (λ (d : Details). eqb (d .payee .0) p) A y) ∙ total-append amountOf (keep (λ (d : Details). eqb (d .payee .0) p) A) (keep (λ (d : Details). eqb (d .payee .0) p) y)
+          in
+          omega (arith, h .money p lb, n .money p lb);
+      placed =
+          λ (d : Details) (l : 1 ≤ countD d (P ++ x)).
+          ⊎-elim
+          (λ (e : leb 1 (countD d x) ≡ true). n .placed d (leb-true _ _ e))
+          (λ (e : leb 1 (countD d x) ≡ false). placed-later (n .grown) (h .placed d (omega (arith, tp d, leb-false 1 (countD d x) e))))
+          (which (leb 1 (countD d x)));
+      counts = λ (d : Details). omega (arith, tp d, ta d, n .counts d);
+      backed =
+          λ (m : Message) (l : 1 ≤ countM m (c .messages)).
+          ⊎-elim
+          (λ (e : 1 ≤ countM m (b .messages)).
+          let k : Backed b P A m = h .backed m e in
+          record {
+            request = λ j. omega (arith, k .request j, n .rises (m .details), ta (m .details));
+            value = λ j. omega (arith, k .value j, tp (m .details));
+            acknowledge = λ j. omega (arith, k .acknowledge j, ta (m .details));
+          })
+          (λ e. e)
+          (n .backed m l);
+    }
+
+-- a purse's status
+at-yes : (q : Purse) (k : ℕ) (d : Details) → q .status ≡ k → bit (isAt k q d) ≡ bit (sameDetails d (q .details))
+at-yes q k d s = rw (eq-eqb (q .status) k s)
+
+at-no : (q : Purse) (k : ℕ) (d : Details) → (q .status ≡ k → ⊥) → bit (isAt k q d) ≡ 0
+at-no q k d s = rw (ne-eqb (q .status) k s)
+
+-- details of another payer, or payee, are others
+other-payer : (p : ℕ) (d D : Details) → D .payer .0 ≡ p → (d .payer .0 ≡ p → ⊥) → bit (sameDetails d D) ≡ 0
+other-payer p d D e n = rw (refute (sameDetails d D) (λ (x : sameDetails d D ≡ true). n (is-same d D x .payer ∙ e)))
+
+other-payee : (p : ℕ) (d D : Details) → D .payee .0 ≡ p → (d .payee .0 ≡ p → ⊥) → bit (sameDetails d D) ≡ 0
+other-payee p d D e n = rw (refute (sameDetails d D) (λ (x : sameDetails d D ≡ true). n (is-same d D x .payee ∙ e)))
+
+-- one payment's share in a sum
+share : (f : Details → ℕ) (p : ℕ) (D : Details) → total amountOf (keep (λ (d : Details). eqb (f d) p) (D ∷ [])) ≡ cond (eqb (f D) p) (amountOf D) 0
+share f p D = ⊎-elim (λ (e : eqb (f D) p ≡ true). rw e (omega arith)) (λ (e : eqb (f D) p ≡ false). rw e) (which (eqb (f D) p))
+
+share-yes : (f : Details → ℕ) (p : ℕ) (D : Details) → f D ≡ p → total amountOf (keep (λ (d : Details). eqb (f d) p) (D ∷ [])) ≡ amountOf D
+share-yes f p D e = share f p D ∙ rw (eq-eqb (f D) p e)
+
+share-no : (f : Details → ℕ) (p : ℕ) (D : Details) → (f D ≡ p → ⊥) → total amountOf (keep (λ (d : Details). eqb (f d) p) (D ∷ [])) ≡ 0
+share-no f p D e = share f p D ∙ rw (ne-eqb (f D) p e)
+
+-- what a move of one purse does to the counts of d on the payer's side and on the payee's
+record PayerSide (d : Details) (r r′ a a′ k : ℕ) (o n : Purse) : Type 0 where
+  epr : bit (isAt 1 n d) + r ≤ bit (isAt 1 o d) + r′
+  epa : bit (isAt 3 n d) + a ≡ bit (isAt 3 o d) + a′
+  log : countD d (kept n) ≡ countD d (kept o) + k
+
+record PayeeSide (d : Details) (v v′ k : ℕ) (o n : Purse) : Type 0 where
+  epv : bit (isAt 2 n d) + v ≡ bit (isAt 2 o d) + v′
+  log : countD d (kept n) ≡ countD d (kept o) + k
+
+-- same details, or none
+by-same : (d D : Details) (T : Details → Type 0) → (bit (sameDetails d D) ≡ 1 → T D) → (bit (sameDetails d D) ≡ 0 → T d) → T d
+by-same d D T f g =
+    ⊎-elim
+    (λ (e : sameDetails d D ≡ true). rw (details-equal d D e) (f (rw e)))
+    (λ (e : sameDetails d D ≡ false). g (rw e))
+    (which (sameDetails d D))
+
+module _ (opening : ℕ → ℕ) (b : Bench) (t : Table b) (P A : List Details) (h : History opening b P A) where
+  -- a move of purse p that leaves its balance
+  same-money : (p : ℕ) (q : Purse) → p < length (b .purses) → q .balance .0 ≡ purseAt b p .balance .0 → (k : ℕ) → balanceAt (withPurse b p q) k + 0 ≡ balanceAt b k + 0
+  same-money p q hp e k = put-cases b p q hp k (λ (o n : Purse). n .balance .0 + 0 ≡ o .balance .0 + 0) (λ z. omega arith) (λ z r. refl)
+
+  -- a move of purse p alone that pays nothing and by which nothing arrives
+  quiet : (p : ℕ) (q : Purse) → p < length (b .purses) → purseAt b p .next .0 ≤ q .next .0 → q .balance .0 ≡ purseAt b p .balance .0 → ((d : Details) → CountsAt (withPurse b p q) d (countD d P + 0) (countD d A + 0)) → ((d : Details) → epv b d + payeeLog b d ≤ epv (withPurse b p q) d + payeeLog (withPurse b p q) d) → History opening (withPurse b p q) (P ++ []) (A ++ [])
+  quiet p q hp later balance cs up =
+      after h
+      (record {
+        grown = grown-put b p q hp later;
+        money = λ k l. same-money p q hp balance k;
+        placed = λ d l. absurd (omega arith);
+        counts = cs;
+        rises = λ (d : Details). omega (arith, up d);
+        backed = λ m l. inl l;
+      })
+
+  hist-from : (p : ℕ) (o : Name) (s : Seq) (a : Amount) → Started b p (o .0) → Good p (begunFrom b p o s a) → History opening (withPurse b p (begunFrom b p o s a)) (P ++ []) (A ++ [])
+  hist-from p o s a st w =
+      let q : Purse = purseAt b p in
+      let q′ : Purse = begunFrom b p o s a in
+      let D : Details = fromOf b p o s a in
+      let c : Bench = withPurse b p q′ in
+      let z : q .status ≡ 0 = st .idle in
+      let no : (k : ℕ) → 1 ≤ k → (d : Details) → bit (isAt k q d) ≡ 0 = λ (k : ℕ) (l : 1 ≤ k) (d : Details). at-no q k d (λ (y : q .status ≡ k). omega arith) in
+      let ps : (d : Details) → PayerSide d 0 (bit (sameDetails d D)) 0 0 0 (purseAt b (d .payer .0)) (purseAt c (d .payer .0)) =
+      λ (d : Details).
+      put-cases b p q′ (st .here) (d .payer .0) (PayerSide d 0 (bit (sameDetails d D)) 0 0 0)
+      (λ e. record { epr = omega (arith, no 1 (omega arith) d); epa = omega (arith, no 3 (omega arith) d); log = omega arith })
+      (λ e r. record { epr = omega arith; epa = refl; log = omega arith })
+      in
+      let es : (d : Details) → PayeeSide d 0 0 0 (purseAt b (d .payee .0)) (purseAt c (d .payee .0)) =
+      λ (d : Details).
+      put-cases b p q′ (st .here) (d .payee .0) (PayeeSide d 0 0 0)
+      (λ e. record { epv = omega (arith, no 2 (omega arith) d); log = omega arith })
+      (λ e r. record { epv = refl; log = omega arith })
+      in
+      let fresh : countD D P ≡ 0 = none _ (λ (l : 1 ≤ countD D P). omega (arith, h .placed D l .payerseq)) in
+      quiet p q′ (st .here) (omega arith) refl
+      (λ (d : Details).
+      by-same d D (λ (d : Details). CountsAt c d (countD d P + 0) (countD d A + 0))
+      (λ one. omega (arith, ps D, es D, h .counts D, bit-le (isAt 1 (purseAt c p) D)))
+      (λ none. omega (arith, ps d, es d, h .counts d)))
+      (λ (d : Details). omega (arith, es d))
+
+  -- a message that was sent, and what backs it
+  sent-backed : (c : Bench) (x y : List Details) (m₀ : Message) (ms : List Message) → c .messages ≡ ms → Sent b m₀ ms → Backed c (P ++ x) (A ++ y) m₀ → (m : Message) → 1 ≤ countM m (c .messages) → (1 ≤ countM m (b .messages)) ⊎ Backed c (P ++ x) (A ++ y) m
+  sent-backed c x y m₀ ms e s k m l =
+      ⊎-elim
+      (λ (f : ms ≡ b .messages). inl (rw (e ∙ f) at l))
+      (λ (f : (ms ≡ b .messages ++ (m₀ ∷ [])) × (length (b .messages) < 256)).
+      at-end m₀ m (b .messages) (λ (m : Message). (1 ≤ countM m (b .messages)) ⊎ Backed c (P ++ x) (A ++ y) m) (rw (e ∙ f .0) at l) (inr k) (λ j. inl j))
+      s
+
+  hist-to : (p : ℕ) (o : Name) (s : Seq) (a : Amount) → Started b p (o .0) → Good p (begunTo b p o s a) → (ms : List Message) → Sent b (messageOf 1 (toOf b p o s a)) ms → History opening (withMessages (withPurse b p (begunTo b p o s a)) ms) (P ++ []) (A ++ [])
+  hist-to p o s a st w ms sn =
+      let q : Purse = purseAt b p in
+      let q′ : Purse = begunTo b p o s a in
+      let D : Details = toOf b p o s a in
+      let c : Bench = withMessages (withPurse b p q′) ms in
+      let z : q .status ≡ 0 = st .idle in
+      let no : (k : ℕ) → 1 ≤ k → (d : Details) → bit (isAt k q d) ≡ 0 = λ (k : ℕ) (l : 1 ≤ k) (d : Details). at-no q k d (λ (y : q .status ≡ k). omega arith) in
+      let ps : (d : Details) → PayerSide d 0 0 0 0 0 (purseAt b (d .payer .0)) (purseAt c (d .payer .0)) =
+      λ (d : Details).
+      put-cases b p q′ (st .here) (d .payer .0) (PayerSide d 0 0 0 0 0)
+      (λ e. record { epr = omega (arith, no 1 (omega arith) d); epa = omega (arith, no 3 (omega arith) d); log = omega arith })
+      (λ e r. record { epr = omega arith; epa = refl; log = omega arith })
+      in
+      let es : (d : Details) → PayeeSide d 0 (bit (sameDetails d D)) 0 (purseAt b (d .payee .0)) (purseAt c (d .payee .0)) =
+      λ (d : Details).
+      put-cases b p q′ (st .here) (d .payee .0) (PayeeSide d 0 (bit (sameDetails d D)) 0)
+      (λ e. record { epv = omega (arith, no 2 (omega arith) d); log = omega arith })
+      (λ e r. record { epv = omega (arith, other-payee p d D refl e); log = omega arith })
+      in
+      let apart : (o .0 ≡ p → ⊥) = busy-apart (called p) q′ w (λ (z : 2 ≡ 0). omega arith) in
+      let unlogged : countD D (kept q) + countD D (archivedBy p (b .archive)) ≡ 0 = fresh-to b t p o s a (st .here) apart in
+      let fresh : countD D P ≡ 0 = none _ (λ (l : 1 ≤ countD D P). omega (arith, h .placed D l .payeeseq)) in
+      let here : bit (sameDetails D D) ≡ 1 = rw (details-same D) in
+      let ta : countD D (A ++ []) ≡ countD D A + 0 = times-append sameDetails D A [] in
+      after h
+      (record {
+        grown = grown-with ms (b .archive) (grown-put b p q′ (st .here) (omega arith));
+        money = λ k l. same-money p q′ (st .here) refl k;
+        placed = λ d l. absurd (omega arith);
+        counts =
+            λ (d : Details).
+            by-same d D (λ (d : Details). CountsAt c d (countD d P + 0) (countD d A + 0))
+            (λ one. omega (arith, ps D, es D, h .counts D, bit-le (isAt 2 (purseAt c p) D)))
+            (λ none. omega (arith, ps d, es d, h .counts d));
+        rises = λ (d : Details). omega (arith, es d .epv, es d .log);
+        backed =
+            sent-backed c [] [] (messageOf 1 D) ms refl sn
+            (record { request = λ j. omega (arith, es D .epv); value = λ (j : 1 ≡ 2). absurd (omega arith); acknowledge = λ (j : 1 ≡ 3). absurd (omega arith) });
+      })
+
+  hist-pay : (p : ℕ) → Taking b p 1 → Good p (payerAfter b p) → (ms : List Message) → Sent b (messageOf 2 (purseAt b p .details)) ms → History opening (withMessages (withPurse b p (payerAfter b p)) ms) (P ++ (purseAt b p .details ∷ [])) (A ++ [])
+  hist-pay p g w ms sn =
+      let q : Purse = purseAt b p in
+      let q′ : Purse = payerAfter b p in
+      let D : Details = purseAt b p .details in
+      let c : Bench = withMessages (withPurse b p q′) ms in
+      let z : q .status ≡ 1 = g .status in
+      let role : OwnPayer (called p) q = payer-role (called p) q (t .well p (g .here)) (λ (y : q .status ≡ 0). omega arith) (λ (y : q .status ≡ 2). omega arith) in
+      let mine : D .payer .0 ≡ p = role .name in
+      let ps : (d : Details) → PayerSide d (bit (sameDetails d D)) 0 0 (bit (sameDetails d D)) 0 (purseAt b (d .payer .0)) (purseAt c (d .payer .0)) =
+      λ (d : Details).
+      put-cases b p q′ (g .here) (d .payer .0) (PayerSide d (bit (sameDetails d D)) 0 0 (bit (sameDetails d D)) 0)
+      (λ e. record { epr = omega (arith, at-yes q 1 d z); epa = omega (arith, at-no q 3 d (λ (y : q .status ≡ 3). omega arith)); log = omega arith })
+      (λ e r. record { epr = omega (arith, other-payer p d D mine e); epa = omega (arith, other-payer p d D mine e); log = omega arith })
+      in
+      let es : (d : Details) → PayeeSide d 0 0 0 (purseAt b (d .payee .0)) (purseAt c (d .payee .0)) =
+      λ (d : Details).
+      put-cases b p q′ (g .here) (d .payee .0) (PayeeSide d 0 0 0)
+      (λ e. record { epv = omega (arith, at-no q 2 d (λ (y : q .status ≡ 2). omega arith)); log = omega arith })
+      (λ e r. record { epv = refl; log = omega arith })
+      in
+      let k : MessageOk b (messageOf 1 D) = t .message (messageOf 1 D) (g .stands) in
+      let gr : Grown b c = grown-with ms (b .archive) (grown-put b p q′ (g .here) (omega arith)) in
+      let own : purseAt b (D .payer .0) .next .0 ≡ q .next .0 = ap (λ (n : ℕ). purseAt b n .next .0) mine in
+      let here : bit (sameDetails D D) ≡ 1 = rw (details-same D) in
+      let asked : 1 ≤ epv b D + payeeLog b D + countD D A = h .backed (messageOf 1 D) (g .stands) .request refl in
+      let enough : amountOf D ≤ q .balance .0 = can-pay (called p) q (t .well p (g .here)) z in
+      after h
+      (record {
+        grown = gr;
+        money =
+            λ k l.
+            put-cases b p q′ (g .here) k (λ (o n : Purse). n .balance .0 + paidOut k (D ∷ []) ≡ o .balance .0 + 0)
+            (λ e. omega (arith, share-yes (λ (d : Details). d .payer .0) k D (mine ∙ sym e)))
+            (λ e r. omega (arith, share-no (λ (d : Details). d .payer .0) k D (λ (y : D .payer .0 ≡ k). e (sym y ∙ mine))));
+        placed =
+            λ (d : Details) (l : 1 ≤ bit (sameDetails d D) + 0).
+            rw (details-equal d D (bit-yes _ (omega arith)))
+            (placed-later gr (record { payer = k .table .payer; payee = k .table .payee; payerseq = omega (arith, role .high); payeeseq = k .payee-high }));
+        counts =
+            λ (d : Details).
+            by-same d D (λ (d : Details). CountsAt c d (countD d P + (bit (sameDetails d D) + 0)) (countD d A + 0))
+            (λ one. omega (arith, ps D, es D, h .counts D))
+            (λ none. omega (arith, ps d, es d, h .counts d));
+        rises = λ (d : Details). omega (arith, es d .epv, es d .log);
+        backed =
+            sent-backed c (D ∷ []) [] (messageOf 2 D) ms refl sn
+            (record {
+              request = λ (j : 2 ≡ 1). absurd (omega arith);
+              value = λ j. omega (arith, times-append sameDetails D P (D ∷ []));
+              acknowledge = λ (j : 2 ≡ 3). absurd (omega arith);
+            });
+      })
+
+  hist-get : (p : ℕ) → Taking b p 2 → Good p (payeeAfter b p) → (ms : List Message) → Sent b (messageOf 3 (purseAt b p .details)) ms → History opening (withMessages (withPurse b p (payeeAfter b p)) ms) (P ++ []) (A ++ (purseAt b p .details ∷ []))
+  hist-get p g w ms sn =
+      let q : Purse = purseAt b p in
+      let q′ : Purse = payeeAfter b p in
+      let D : Details = purseAt b p .details in
+      let c : Bench = withMessages (withPurse b p q′) ms in
+      let z : q .status ≡ 2 = g .status in
+      let role : OwnPayee (called p) q = payee-role (called p) q (t .well p (g .here)) z in
+      let mine : D .payee .0 ≡ p = role .name in
+      let ps : (d : Details) → PayerSide d 0 0 0 0 0 (purseAt b (d .payer .0)) (purseAt c (d .payer .0)) =
+      λ (d : Details).
+      put-cases b p q′ (g .here) (d .payer .0) (PayerSide d 0 0 0 0 0)
+      (λ e. record { epr = omega arith; epa = omega (arith, at-no q 3 d (λ (y : q .status ≡ 3). omega arith)); log = omega arith })
+      (λ e r. record { epr = omega arith; epa = refl; log = omega arith })
+      in
+      let es : (d : Details) → PayeeSide d (bit (sameDetails d D)) 0 0 (purseAt b (d .payee .0)) (purseAt c (d .payee .0)) =
+      λ (d : Details).
+      put-cases b p q′ (g .here) (d .payee .0) (PayeeSide d (bit (sameDetails d D)) 0 0)
+      (λ e. record { epv = omega (arith, at-yes q 2 d z); log = omega arith })
+      (λ e r. record { epv = omega (arith, other-payee p d D mine e); log = omega arith })
+      in
+      let here : bit (sameDetails D D) ≡ 1 = rw (details-same D) in
+      let was : 1 ≤ countD D P = h .backed (messageOf 2 D) (g .stands) .value refl in
+      after h
+      (record {
+        grown = grown-with ms (b .archive) (grown-put b p q′ (g .here) (omega arith));
+        money =
+            λ k l.
+            put-cases b p q′ (g .here) k (λ (o n : Purse). n .balance .0 + 0 ≡ o .balance .0 + takenIn k (D ∷ []))
+            (λ e. omega (arith, share-yes (λ (d : Details). d .payee .0) k D (mine ∙ sym e)))
+            (λ e r. omega (arith, share-no (λ (d : Details). d .payee .0) k D (λ (y : D .payee .0 ≡ k). e (sym y ∙ mine))));
+        placed = λ d l. absurd (omega arith);
+        counts =
+            λ (d : Details).
+            by-same d D (λ (d : Details). CountsAt c d (countD d P + 0) (countD d A + (bit (sameDetails d D) + 0)))
+            (λ one. omega (arith, ps D, es D, h .counts D))
+            (λ none. omega (arith, ps d, es d, h .counts d));
+        rises = λ (d : Details). omega (arith, es d .epv, es d .log);
+        backed =
+            sent-backed c [] (D ∷ []) (messageOf 3 D) ms refl sn
+            (record {
+              request = λ (j : 3 ≡ 1). absurd (omega arith);
+              value = λ (j : 3 ≡ 2). absurd (omega arith);
+              acknowledge = λ j. omega (arith, times-append sameDetails D A (D ∷ []));
+            });
+      })
+
+  hist-settle : (p : ℕ) → Taking b p 3 → Good p (idleAfter b p) → History opening (withPurse b p (idleAfter b p)) (P ++ []) (A ++ [])
+  hist-settle p g w =
+      let q : Purse = purseAt b p in
+      let q′ : Purse = idleAfter b p in
+      let D : Details = purseAt b p .details in
+      let c : Bench = withPurse b p q′ in
+      let z : q .status ≡ 3 = g .status in
+      let role : OwnPayer (called p) q = payer-role (called p) q (t .well p (g .here)) (λ (y : q .status ≡ 0). omega arith) (λ (y : q .status ≡ 2). omega arith) in
+      let mine : D .payer .0 ≡ p = role .name in
+      let ps : (d : Details) → PayerSide d 0 0 (bit (sameDetails d D)) 0 0 (purseAt b (d .payer .0)) (purseAt c (d .payer .0)) =
+      λ (d : Details).
+      put-cases b p q′ (g .here) (d .payer .0) (PayerSide d 0 0 (bit (sameDetails d D)) 0 0)
+      (λ e. record { epr = omega arith; epa = omega (arith, at-yes q 3 d z); log = omega arith })
+      (λ e r. record { epr = omega arith; epa = omega (arith, other-payer p d D mine e); log = omega arith })
+      in
+      let es : (d : Details) → PayeeSide d 0 0 0 (purseAt b (d .payee .0)) (purseAt c (d .payee .0)) =
+      λ (d : Details).
+      put-cases b p q′ (g .here) (d .payee .0) (PayeeSide d 0 0 0)
+      (λ e. record { epv = omega (arith, at-no q 2 d (λ (y : q .status ≡ 2). omega arith)); log = omega arith })
+      (λ e r. record { epv = refl; log = omega arith })
+      in
+      let came : 1 ≤ countD D A = h .backed (messageOf 3 D) (g .stands) .acknowledge refl in
+      quiet p q′ (g .here) (omega arith) refl
+      (λ (d : Details).
+      by-same d D (λ (d : Details). CountsAt c d (countD d P + 0) (countD d A + 0))
+      (λ one. omega (arith, ps D, es D, h .counts D))
+      (λ none. omega (arith, ps d, es d, h .counts d)))
+      (λ (d : Details). omega (arith, es d))
+
+  hist-quit : (p : ℕ) → p < length (b .purses) → purseAt b p .status ≡ 1 → Good p (idleAfter b p) → History opening (withPurse b p (idleAfter b p)) (P ++ []) (A ++ [])
+  hist-quit p hp z w =
+      let q : Purse = purseAt b p in
+      let q′ : Purse = idleAfter b p in
+      let c : Bench = withPurse b p q′ in
+      let ps : (d : Details) → PayerSide d 0 0 0 0 0 (purseAt b (d .payer .0)) (purseAt c (d .payer .0)) =
+      λ (d : Details).
+      put-cases b p q′ hp (d .payer .0) (PayerSide d 0 0 0 0 0)
+      (λ e. record { epr = omega arith; epa = omega (arith, at-no q 3 d (λ (y : q .status ≡ 3). omega arith)); log = omega arith })
+      (λ e r. record { epr = omega arith; epa = refl; log = omega arith })
+      in
+      let es : (d : Details) → PayeeSide d 0 0 0 (purseAt b (d .payee .0)) (purseAt c (d .payee .0)) =
+      λ (d : Details).
+      put-cases b p q′ hp (d .payee .0) (PayeeSide d 0 0 0)
+      (λ e. record { epv = omega (arith, at-no q 2 d (λ (y : q .status ≡ 2). omega arith)); log = omega arith })
+      (λ e r. record { epv = refl; log = omega arith })
+      in
+      quiet p q′ hp (omega arith) refl
+      (λ (d : Details). omega (arith, ps d, es d, h .counts d))
+      (λ (d : Details). omega (arith, es d))
+
+  -- details that two different purses share are not one purse's twice
+  crossed : (p : ℕ) (d D : Details) → d .payer .0 ≡ p → D .payee .0 ≡ p → (D .payer .0 ≡ D .payee .0 → ⊥) → bit (sameDetails d D) ≡ 0
+  crossed p d D e f n = rw (refute (sameDetails d D) (λ (x : sameDetails d D ≡ true). n (sym (is-same d D x .payer) ∙ (e ∙ sym f))))
+
+  crossed′ : (p : ℕ) (d D : Details) → d .payee .0 ≡ p → D .payer .0 ≡ p → (D .payer .0 ≡ D .payee .0 → ⊥) → bit (sameDetails d D) ≡ 0
+  crossed′ p d D e f n = rw (refute (sameDetails d D) (λ (x : sameDetails d D ≡ true). n (f ∙ (sym e ∙ is-same d D x .payee))))
+
+  hist-stop : (p : ℕ) → p < length (b .purses) → 2 ≤ purseAt b p .status → Good p (stopped (purseAt b p)) → History opening (withPurse b p (stopped (purseAt b p))) (P ++ []) (A ++ [])
+  hist-stop p hp l w =
+      let q : Purse = purseAt b p in
+      let q′ : Purse = stopped q in
+      let D : Details = purseAt b p .details in
+      let c : Bench = withPurse b p q′ in
+      let busy : (q .status ≡ 0 → ⊥) = λ (y : q .status ≡ 0). omega arith in
+      let apart : (D .payer .0 ≡ D .payee .0 → ⊥) = busy-apart (called p) q (t .well p hp) busy in
+      let logs : (d : Details) → countD d (kept q′) ≡ countD d (kept q) + bit (sameDetails d D) = kept-stopped (called p) q (t .well p hp) busy in
+      ⊎-elim
+      (λ (z : q .status ≡ 2).
+      let mine : D .payee .0 ≡ p = payee-role (called p) q (t .well p hp) z .name in
+      let ps : (d : Details) → PayerSide d 0 0 0 0 0 (purseAt b (d .payer .0)) (purseAt c (d .payer .0)) =
+      λ (d : Details).
+      put-cases b p q′ hp (d .payer .0) (PayerSide d 0 0 0 0 0)
+      (λ e. record { epr = omega arith; epa = omega (arith, at-no q 3 d (λ (y : q .status ≡ 3). omega arith)); log = omega (arith, logs d, crossed p d D e mine apart) })
+      (λ e r. record { epr = omega arith; epa = refl; log = omega arith })
+      in
+      let es : (d : Details) → PayeeSide d (bit (sameDetails d D)) 0 (bit (sameDetails d D)) (purseAt b (d .payee .0)) (purseAt c (d .payee .0)) =
+      λ (d : Details).
+      put-cases b p q′ hp (d .payee .0) (PayeeSide d (bit (sameDetails d D)) 0 (bit (sameDetails d D)))
+      (λ e. record { epv = omega (arith, at-yes q 2 d z); log = logs d })
+      (λ e r. record { epv = omega (arith, other-payee p d D mine e); log = omega (arith, other-payee p d D mine e) })
+      in
+      quiet p q′ hp (omega arith) refl
+      (λ (d : Details). omega (arith, ps d, es d, h .counts d))
+      (λ (d : Details). omega (arith, es d)))
+      (λ (z : q .status ≡ 3).
+      let mine : D .payer .0 ≡ p = payer-role (called p) q (t .well p hp) busy (λ (y : q .status ≡ 2). omega arith) .name in
+      let ps : (d : Details) → PayerSide d 0 0 (bit (sameDetails d D)) 0 (bit (sameDetails d D)) (purseAt b (d .payer .0)) (purseAt c (d .payer .0)) =
+      λ (d : Details).
+      put-cases b p q′ hp (d .payer .0) (PayerSide d 0 0 (bit (sameDetails d D)) 0 (bit (sameDetails d D)))
+      (λ e. record { epr = omega arith; epa = omega (arith, at-yes q 3 d z); log = logs d })
+      (λ e r. record { epr = omega arith; epa = omega (arith, other-payer p d D mine e); log = omega (arith, other-payer p d D mine e) })
+      in
+      let es : (d : Details) → PayeeSide d 0 0 0 (purseAt b (d .payee .0)) (purseAt c (d .payee .0)) =
+      λ (d : Details).
+      put-cases b p q′ hp (d .payee .0) (PayeeSide d 0 0 0)
+      (λ e. record { epv = omega (arith, at-no q 2 d (λ (y : q .status ≡ 2). omega arith)); log = omega (arith, logs d, crossed′ p d D e mine apart) })
+      (λ e r. record { epv = refl; log = omega arith })
+      in
+      quiet p q′ hp (omega arith) refl
+      (λ (d : Details). omega (arith, ps d, es d, h .counts d))
+      (λ (d : Details). omega (arith, es d)))
+      (status-high (called p) q (t .well p hp) l)
+
+  hist-drop : (i : ℕ) → i < length (b .messages) → History opening (withMessages b (without i (b .messages))) (P ++ []) (A ++ [])
+  hist-drop i l =
+      after h
+      (record {
+        grown = record { same = refl; next = λ (k : ℕ). omega arith };
+        money = λ k l. refl;
+        placed = λ d l. absurd (omega arith);
+        counts = λ (d : Details). omega (arith, h .counts d);
+        rises = λ (d : Details). omega arith;
+        backed = λ m j. inl (omega (arith, times-split sameMessage m (b .messages) i zeroMessage l));
+      })
+
+  hist-collect : (p : ℕ) → p < length (b .purses) → 0 < purseAt b p .logged → Good p (taken (purseAt b p)) → length (b .archive) < 256 → History opening (withArchive (withPurse b p (taken (purseAt b p))) (b .archive ++ (record { by = called p; details = getD (purseAt b p .log) 0 zeroDetails } ∷ []))) (P ++ []) (A ++ [])
+  hist-collect p hp l w room =
+      let q : Purse = purseAt b p in
+      let q′ : Purse = taken q in
+      let D : Details = getD (purseAt b p .log) 0 zeroDetails in
+      let E : Entry = record { by = called p; details = D } in
+      let c : Bench = withArchive (withPurse b p q′) (b .archive ++ (E ∷ [])) in
+      let same : (k s : ℕ) (d : Details) → bit (isAt s (purseAt c k) d) ≡ bit (isAt s (purseAt b k) d) =
+      λ (k s : ℕ) (d : Details). put-cases b p q′ hp k (λ (o n : Purse). bit (isAt s n d) ≡ bit (isAt s o d)) (λ e. refl) (λ e r. refl)
+      in
+      let logs : (k : ℕ) (d : Details) → countD d (kept (purseAt c k)) + countD d (archivedBy k (b .archive ++ (E ∷ []))) ≡ countD d (kept (purseAt b k)) + countD d (archivedBy k (b .archive)) =
+      λ (k : ℕ) (d : Details).
+      put-cases b p q′ hp k (λ (o n : Purse). countD d (kept n) + countD d (archivedBy k (b .archive ++ (E ∷ []))) ≡ countD d (kept o) + countD d (archivedBy k (b .archive)))
+      (λ (e : k ≡ p).
+      let u : cond (eqb p k) (bit (sameDetails d D)) 0 ≡ bit (sameDetails d D) = rw (eq-eqb p k (sym e)) in
+      omega (arith, kept-taken (called p) q (t .well p hp) l d, archived-end E k d (b .archive)))
+      (λ (e : k ≡ p → ⊥) (r : Purse).
+      let u : cond (eqb p k) (bit (sameDetails d D)) 0 ≡ 0 = rw (ne-eqb p k (λ (y : p ≡ k). e (sym y))) in
+      omega (arith, archived-end E k d (b .archive)))
+      in
+      after h
+      (record {
+        grown = grown-with (b .messages) (b .archive ++ (E ∷ [])) (grown-put b p q′ hp (omega arith));
+        money = λ k l. same-money p q′ hp refl k;
+        placed = λ d l. absurd (omega arith);
+        counts = λ (d : Details). omega (arith, same (d .payer .0) 1 d, same (d .payer .0) 3 d, same (d .payee .0) 2 d, logs (d .payer .0) d, logs (d .payee .0) d, h .counts d);
+        rises = λ (d : Details). omega (arith, same (d .payee .0) 2 d, logs (d .payee .0) d);
+        backed = λ m l. inl l;
+      })
+
+  pub history-moves : Moves b (λ (c : Bench) (x y : List Details). History opening c (P ++ x) (A ++ y))
+  history-moves =
+      record {
+        stays = rw (append-nil P, append-nil A) h;
+        from = hist-from;
+        to = hist-to;
+        pay = hist-pay;
+        get = hist-get;
+        settle = hist-settle;
+        quit = hist-quit;
+        stop = hist-stop;
+        drop = hist-drop;
+        collect = hist-collect;
+      }
+
+-- each step keeps the history's facts
+pub history-step : (opening : ℕ → ℕ) (b : Bench) (P A : List Details) (l : List ℕ) → tableOk b ≡ true → History opening b P A → History opening (step b l .bench) (P ++ movedBy 1 b l) (A ++ movedBy 2 b l)
+history-step opening b P A l w h =
+    step-moves b (is-table b w) (λ (c : Bench) (x y : List Details). History opening c (P ++ x) (A ++ y)) (history-moves opening b (is-table b w) P A h) w l
+
+pub history-run : (opening : ℕ → ℕ) (b : Bench) (P A : List Details) (ls : List (List ℕ)) → tableOk b ≡ true → History opening b P A → History opening (run b ls) (P ++ paid b ls) (A ++ arrived b ls)
+history-run opening b P A [] w h = rw (append-nil P, append-nil A) h
+history-run opening b P A (l ∷ ls) w h =
+    rw (← append-assoc P (movedBy 1 b l) (moved 1 (step b l .bench) ls), ← append-assoc A (movedBy 2 b l) (moved 2 (step b l .bench) ls))
+    (history-run opening (step b l .bench) (P ++ movedBy 1 b l) (A ++ movedBy 2 b l) ls (keep-step b l w) (history-step opening b P A l w h))

@@ -1,0 +1,15 @@
+pub mod Edges
+pub mod Listing
+pub mod Facts
+pub mod Places
+pub mod Puts
+pub mod Purses
+pub mod Ladders
+pub mod Moves
+pub mod Kept
+pub mod History
+pub mod Orders
+pub mod Answers
+pub mod Opened
+pub mod Stopped
+pub mod Safe

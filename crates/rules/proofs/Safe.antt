@@ -1,0 +1,155 @@
+-- Demand 3, of every bench that was opened by the rules and of every list of events.
+-- The sum of the balances never exceeds the opening sum; nothing arrives unpaid or twice; and once every purse has been stopped,
+-- each purse has its opening balance, less what it paid that arrived, less what its matched log pairs record, plus what arrived at it.
+-- Assumes nothing.
+use Prim.Native.Nat.{ℕ, zero, suc, _+_, _≤_, _<_}
+use mathlib.Core.Path.{_≡_, refl, _∙_, sym, ap}
+use mathlib.Core.Bool.{Bool, true, false, _&&_, not, cond}
+use mathlib.Core.Logic.{inl, ⊎-elim}
+use mathlib.Core.List.{List, [], _∷_, _++_, map}
+use lib.ListN.{length, length-map}
+use lib.Dec.{ltb, eqb}
+use native.Mathlib.Omega.{arith}
+use borrow.Author.Tests.{ltb-true, ltb-false, eqb-true, ne-eqb, lt-ltb}
+use Rattle.purse.specs.declared.Details.{Details}
+use Rattle.purse.specs.declared.Purse.{Purse}
+use Rattle.purse.specs.Details.{sameDetails}
+use Rattle.purse.specs.Lists.{all, among, keep, total, sumTo}
+use Rattle.purse.proofs.Bools.{which}
+use Rattle.purse.proofs.Count.{bit, times-append, times-keep, among-times, apart-times, total-le, total-eq, total-append, all-is, sum-same, sum-add, sum-shares}
+use Rattle.rules.specs.Bench.{Bench, purseAt, kept, archivedBy, loggedBy, isAt, balanceAt}
+use Rattle.rules.specs.Table.{tableOk}
+use Rattle.rules.specs.Steps.{step}
+use Rattle.rules.specs.Run.{opened, openedAt, openingNumber, run}
+use Rattle.rules.specs.Paid.{amountOf, paid, arrived, matchedWith, matched, abortOf, paidOut, takenIn}
+use Rattle.rules.proofs.Facts.{details-equal, details-same, countD, table-is}
+use Rattle.rules.proofs.Opened.{opened-table}
+use Rattle.rules.proofs.History.{epr, epa, epv, payerLog, payeeLog, History, history-run}
+use Rattle.rules.proofs.Kept.{keep-run}
+use Rattle.rules.proofs.Stopped.{run-length, aborts-idle, beyond}
+
+-- an opened bench has no history
+quiet-purse : (bs : List ℕ) (k : ℕ) → (purseAt (opened bs) k .status ≡ 0) × (purseAt (opened bs) k .logged ≡ 0)
+quiet-purse [] k = (refl, refl)
+quiet-purse (x ∷ bs) zero = (refl, refl)
+quiet-purse (x ∷ bs) (suc k) = quiet-purse bs k
+
+none-kept : (q : Purse) (d : Details) → q .logged ≡ 0 → countD d (kept q) ≡ 0
+none-kept q d e = rw e
+
+none-at : (q : Purse) (s : ℕ) (d : Details) → (q .status ≡ s → ⊥) → bit (isAt s q d) ≡ 0
+none-at q s d h = rw (ne-eqb (q .status) s h)
+
+idle-at : (q : Purse) (s : ℕ) (d : Details) → q .status ≡ 0 → 1 ≤ s → bit (isAt s q d) ≡ 0
+idle-at q s d e l = none-at q s d (λ (y : q .status ≡ s). omega arith)
+
+pub opened-history : (bs : List ℕ) → History (balanceAt (opened bs)) (opened bs) [] []
+opened-history bs =
+    let no : (k s : ℕ) (d : Details) → 1 ≤ s → bit (isAt s (purseAt (opened bs) k) d) ≡ 0 = λ (k s : ℕ) (d : Details) (l : 1 ≤ s). idle-at (purseAt (opened bs) k) s d (quiet-purse bs k .0) l in
+    let nk : (k : ℕ) (d : Details) → countD d (kept (purseAt (opened bs) k)) ≡ 0 = λ (k : ℕ) (d : Details). none-kept (purseAt (opened bs) k) d (quiet-purse bs k .1) in
+    record {
+      money = λ p l. refl;
+      placed = λ d l. absurd (omega arith);
+      counts = λ (d : Details). omega (arith, no (d .payer .0) 1 d (omega arith), no (d .payer .0) 3 d (omega arith), no (d .payee .0) 2 d (omega arith), nk (d .payer .0) d, nk (d .payee .0) d);
+      backed = λ m l. absurd (omega arith);
+    }
+
+-- from a history: the money in the purses
+module _ (opening : ℕ → ℕ) (b : Bench) (P A : List Details) (h : History opening b P A) where
+  in-balance : sumTo (length (b .purses)) (balanceAt b) + total amountOf P ≡ sumTo (length (b .purses)) opening + total amountOf A
+  in-balance =
+      let n : ℕ = length (b .purses) in
+      let pp : all (λ (d : Details). ltb (d .payer .0) n) P ≡ true = all-is sameDetails details-equal details-same (λ (d : Details). ltb (d .payer .0) n) P (λ (d : Details) (l : 1 ≤ countD d P). lt-ltb _ _ (h .placed d l .payer)) in
+      let aa : all (λ (d : Details). ltb (d .payee .0) n) A ≡ true = all-is sameDetails details-equal details-same (λ (d : Details). ltb (d .payee .0) n) A (λ (d : Details) (l : 1 ≤ countD d A). lt-ltb _ _ (h .placed d (omega (arith, h .counts d .within)) .payee)) in
+      let sp : sumTo n (λ (p : ℕ). paidOut p P) ≡ total amountOf P = sum-shares amountOf (λ (d : Details). d .payer .0) n P pp in
+      let sa : sumTo n (λ (p : ℕ). takenIn p A) ≡ total amountOf A = sum-shares amountOf (λ (d : Details). d .payee .0) n A aa in
+      let s1 : sumTo n (λ (p : ℕ). balanceAt b p + paidOut p P) ≡ sumTo n (λ (p : ℕ). opening p + takenIn p A) = sum-same n (λ (p : ℕ). balanceAt b p + paidOut p P) (λ (p : ℕ). opening p + takenIn p A) (h .money) in
+      omega (arith, sum-add n (balanceAt b) (λ (p : ℕ). paidOut p P), sum-add n opening (λ (p : ℕ). takenIn p A))
+
+  arrived-le : total amountOf A ≤ total amountOf P
+  arrived-le = total-le sameDetails details-equal details-same amountOf A P (λ (d : Details). h .counts d .within)
+
+  -- every purse idle: what a purse paid is what arrived of it and what its matched pairs record
+  module _ (idle : (k : ℕ) → purseAt b k .status ≡ 0) where
+    matched-count : (p : ℕ) (d : Details) → countD d (matched b p ++ keep (λ (d : Details). eqb (d .payer .0) p) A) ≡ countD d (keep (λ (d : Details). eqb (d .payer .0) p) P)
+    matched-count p d =
+        let f : Details → Bool = λ (d : Details). eqb (d .payer .0) p in
+        let kp : countD d (keep (λ (d : Details). eqb (d .payer .0) p) P) ≡ cond (eqb (d .payer .0) p) (countD d P) 0 = times-keep sameDetails details-equal details-same (λ (d : Details). eqb (d .payer .0) p) d P in
+        let ka : countD d (keep (λ (d : Details). eqb (d .payer .0) p) A) ≡ cond (eqb (d .payer .0) p) (countD d A) 0 = times-keep sameDetails details-equal details-same (λ (d : Details). eqb (d .payer .0) p) d A in
+        let km : countD d (matched b p) ≡ cond (eqb (d .payer .0) p && among sameDetails d (loggedBy b (d .payee .0))) (countD d (loggedBy b p)) 0 = times-keep sameDetails details-equal details-same (matchedWith b p) d (loggedBy b p) in
+        let sum : countD d (matched b p ++ keep (λ (d : Details). eqb (d .payer .0) p) A) ≡ countD d (matched b p) + countD d (keep (λ (d : Details). eqb (d .payer .0) p) A) = times-append sameDetails d (matched b p) (keep (λ (d : Details). eqb (d .payer .0) p) A) in
+        let no1 : epr b d ≡ 0 = idle-at (purseAt b (d .payer .0)) 1 d (idle (d .payer .0)) (omega arith) in
+        let no3 : epa b d ≡ 0 = idle-at (purseAt b (d .payer .0)) 3 d (idle (d .payer .0)) (omega arith) in
+        let no2 : epv b d ≡ 0 = idle-at (purseAt b (d .payee .0)) 2 d (idle (d .payee .0)) (omega arith) in
+        ⊎-elim
+        (λ (e : eqb (d .payer .0) p ≡ true).
+        let kp′ : countD d (keep (λ (d : Details). eqb (d .payer .0) p) P) ≡ countD d P = kp ∙ rw e in
+        let ka′ : countD d (keep (λ (d : Details). eqb (d .payer .0) p) A) ≡ countD d A = ka ∙ rw e in
+        let lp : countD d (loggedBy b p) ≡ payerLog b d = ap (λ (k : ℕ). countD d (loggedBy b k)) (sym (eqb-true (d .payer .0) p e)) ∙ times-append sameDetails d (kept (purseAt b (d .payer .0))) (archivedBy (d .payer .0) (b .archive)) in
+        let le : countD d (loggedBy b (d .payee .0)) ≡ payeeLog b d = times-append sameDetails d (kept (purseAt b (d .payee .0))) (archivedBy (d .payee .0) (b .archive)) in
+        ⊎-elim
+        (λ (m : among sameDetails d (loggedBy b (d .payee .0)) ≡ true).
+        let km′ : countD d (matched b p) ≡ countD d (loggedBy b p) = km ∙ rw (e, m) in
+        omega (arith, among-times sameDetails d (loggedBy b (d .payee .0)) m, h .counts d))
+        (λ (m : among sameDetails d (loggedBy b (d .payee .0)) ≡ false).
+        let km′ : countD d (matched b p) ≡ 0 = km ∙ rw (e, m) in
+        omega (arith, apart-times sameDetails d (loggedBy b (d .payee .0)) m, h .counts d))
+        (which (among sameDetails d (loggedBy b (d .payee .0)))))
+        (λ (e : eqb (d .payer .0) p ≡ false).
+        let kp′ : countD d (keep (λ (d : Details). eqb (d .payer .0) p) P) ≡ 0 = kp ∙ rw e in
+        let ka′ : countD d (keep (λ (d : Details). eqb (d .payer .0) p) A) ≡ 0 = ka ∙ rw e in
+        let km′ : countD d (matched b p) ≡ 0 = km ∙ rw e in
+        omega arith)
+        (which (eqb (d .payer .0) p))
+
+    settled : (p : ℕ) → p < length (b .purses) → balanceAt b p + total amountOf (matched b p) + paidOut p A ≡ opening p + takenIn p A
+    settled p l =
+        let e : total amountOf (matched b p ++ keep (λ (d : Details). eqb (d .payer .0) p) A) ≡ paidOut p P = total-eq sameDetails details-equal details-same amountOf (matched b p ++ keep (λ (d : Details). eqb (d .payer .0) p) A) (keep (λ (d : Details). eqb (d .payer .0) p) P) (matched-count p) in
+        omega (arith, h .money p l, total-append amountOf (matched b p) (keep (λ (d : Details). eqb (d .payer .0) p) A))
+
+-- of every bench opened by the rules, after every list of events
+module _ (bs : List ℕ) (es : List (List ℕ)) (ok : openingNumber bs ≡ 0) where
+  opened-ok : tableOk (opened bs) ≡ true
+  opened-ok = table-is (opened bs) (opened-table bs ok)
+
+  the-history : History (balanceAt (opened bs)) (run (opened bs) es) (paid (opened bs) es) (arrived (opened bs) es)
+  the-history = history-run (balanceAt (opened bs)) (opened bs) [] [] es opened-ok (opened-history bs)
+
+  the-length : length (run (opened bs) es .purses) ≡ length bs
+  the-length = run-length (opened bs) es opened-ok ∙ length-map bs openedAt
+
+  -- the balances, and what is paid and has not arrived, are the opening sum
+  pub sum-kept : sumTo (length bs) (balanceAt (run (opened bs) es)) + total amountOf (paid (opened bs) es) ≡ sumTo (length bs) (balanceAt (opened bs)) + total amountOf (arrived (opened bs) es)
+  sum-kept = rw the-length at (in-balance (balanceAt (opened bs)) (run (opened bs) es) (paid (opened bs) es) (arrived (opened bs) es) the-history)
+
+  -- at every moment the sum of the balances is at most the opening sum
+  pub sum-safe : sumTo (length bs) (balanceAt (run (opened bs) es)) ≤ sumTo (length bs) (balanceAt (opened bs))
+  sum-safe = omega (arith, sum-kept, arrived-le (balanceAt (opened bs)) (run (opened bs) es) (paid (opened bs) es) (arrived (opened bs) es) the-history)
+
+  -- nothing arrives that was not paid, and nothing is paid, or arrives, twice
+  pub once-safe : (d : Details) → (countD d (arrived (opened bs) es) ≤ countD d (paid (opened bs) es)) × (countD d (paid (opened bs) es) ≤ 1)
+  once-safe d = (the-history .counts d .within, omega (arith, the-history .counts d .unpaid))
+
+  -- every purse idle: each purse's balance
+  pub idle-safe : ((k : ℕ) → k < length bs → purseAt (run (opened bs) es) k .status ≡ 0) → (p : ℕ) → p < length bs → balanceAt (run (opened bs) es) p + total amountOf (matched (run (opened bs) es) p) + paidOut p (arrived (opened bs) es) ≡ balanceAt (opened bs) p + takenIn p (arrived (opened bs) es)
+  idle-safe idle p l =
+      settled (balanceAt (opened bs)) (run (opened bs) es) (paid (opened bs) es) (arrived (opened bs) es) the-history
+      (λ (k : ℕ).
+      ⊎-elim
+      (λ (e : ltb k (length bs) ≡ true). idle k (ltb-true _ _ e))
+      (λ (e : ltb k (length bs) ≡ false). beyond (run (opened bs) es) k (omega (arith, the-length, ltb-false k (length bs) e)))
+      (which (ltb k (length bs))))
+      p (omega (arith, the-length))
+
+run-append : (b : Bench) (s t : List (List ℕ)) → run b (s ++ t) ≡ run (run b s) t
+run-append b [] t = refl
+run-append b (l ∷ s) t = run-append (step b l .bench) s t
+
+-- after an abort event to every purse, in any order
+pub stopped-safe : (bs : List ℕ) (es : List (List ℕ)) (ps : List ℕ) → openingNumber bs ≡ 0 → ((p : ℕ) → p < length bs → among eqb p ps ≡ true) → (p : ℕ) → p < length bs → balanceAt (run (opened bs) (es ++ map abortOf ps)) p + total amountOf (matched (run (opened bs) (es ++ map abortOf ps)) p) + paidOut p (arrived (opened bs) (es ++ map abortOf ps)) ≡ balanceAt (opened bs) p + takenIn p (arrived (opened bs) (es ++ map abortOf ps))
+stopped-safe bs es ps ok every p l =
+    idle-safe bs (es ++ map abortOf ps) ok
+    (λ (k : ℕ) (j : k < length bs).
+    rw (run-append (opened bs) es (map abortOf ps))
+    (aborts-idle (run (opened bs) es) ps (keep-run (opened bs) es (opened-ok bs es ok)) k (omega (arith, the-length bs es ok)) (inl (every k j))))
+    p l

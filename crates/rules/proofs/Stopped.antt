@@ -1,0 +1,101 @@
+-- An abort of a purse of the table is never refused, leaves that purse idle and no idle purse busy. So after an abort to every purse all are idle.
+-- Assumes nothing.
+use Prim.Native.Nat.{ℕ, _≤_, _<_}
+use mathlib.Core.Path.{_≡_, refl, _∙_, ap}
+use mathlib.Core.Bool.{true, false, _||_, cond}
+use mathlib.Core.Logic.{_⊎_, inl, inr, ⊎-elim}
+use mathlib.Core.List.{List, [], _∷_, map}
+use lib.ListN.{length, List·getD-eq-default, length-set}
+use lib.Dec.{ltb, leb, eqb}
+use native.Mathlib.Omega.{arith}
+use borrow.Author.Tests.{ltb-true, ltb-false, eqb-true, lt-leb, le-leb, le-ltb}
+use Rattle.purse.specs.declared.Details.{Details}
+use Rattle.purse.specs.declared.Purse.{Purse}
+use Rattle.purse.specs.Step.{abortNumber, abortBy, aborted, stopped, taken}
+use Rattle.purse.specs.Lists.{among}
+use Rattle.purse.specs.Purse.{zeroPurse}
+use Rattle.purse.proofs.Bools.{either, which}
+use Rattle.rules.specs.Bench.{Bench, called, purseAt}
+use Rattle.rules.specs.Table.{tableOk}
+use Rattle.rules.specs.Steps.{withPurse, acting, step}
+use Rattle.rules.specs.Events.{decoded}
+use Rattle.rules.specs.Run.{run}
+use Rattle.rules.specs.Paid.{abortOf}
+use Rattle.rules.proofs.Facts.{Table, is-table}
+use Rattle.rules.proofs.Puts.{put-cases}
+use Rattle.rules.proofs.Moves.{step-moves, begunFrom, begunTo, payerAfter, payeeAfter, idleAfter}
+use Rattle.rules.proofs.Kept.{keep-step}
+
+-- the bench has as many purses after a step as before
+pub step-length : (b : Bench) (l : List ℕ) → tableOk b ≡ true → length (step b l .bench .purses) ≡ length (b .purses)
+step-length b l w =
+    step-moves b (is-table b w) (λ (c : Bench) (x y : List Details). length (c .purses) ≡ length (b .purses))
+    (record {
+      stays = refl;
+      from = λ p o s a st g. length-set (b .purses) p (begunFrom b p o s a);
+      to = λ p o s a st g ms x. length-set (b .purses) p (begunTo b p o s a);
+      pay = λ p k g ms x. length-set (b .purses) p (payerAfter b p);
+      get = λ p k g ms x. length-set (b .purses) p (payeeAfter b p);
+      settle = λ p k g. length-set (b .purses) p (idleAfter b p);
+      quit = λ p k l g. length-set (b .purses) p (idleAfter b p);
+      stop = λ p k l g. length-set (b .purses) p (stopped (purseAt b p));
+      drop = λ i l. refl;
+      collect = λ p k l g r. length-set (b .purses) p (taken (purseAt b p));
+    })
+    w l
+
+pub run-length : (b : Bench) (ls : List (List ℕ)) → tableOk b ≡ true → length (run b ls .purses) ≡ length (b .purses)
+run-length b [] w = refl
+run-length b (l ∷ ls) w = run-length (step b l .bench) ls (keep-step b l w) ∙ step-length b l w
+
+aborted-idle : (q : Purse) → aborted q .status ≡ 0
+aborted-idle q =
+    ⊎-elim
+    (λ (e : eqb (q .status) 0 ≡ true). rw e (eqb-true _ _ e))
+    (λ (e : eqb (q .status) 0 ≡ false).
+    ⊎-elim (λ (f : eqb (q .status) 1 ≡ true). rw (e, f)) (λ (f : eqb (q .status) 1 ≡ false). rw (e, f)) (which (eqb (q .status) 1)))
+    (which (eqb (q .status) 0))
+
+-- an abort at a purse of a well-formed table
+pub abort-step : (b : Bench) (p : ℕ) → tableOk b ≡ true → p < length (b .purses) → step b (abortOf p) ≡ record { answer = 0; bench = withPurse b p (aborted (purseAt b p)) }
+unfolding step decoded acting abortBy abortNumber
+abort-step b p w hp =
+    let t : Table b = is-table b w in
+    rw (w, lt-leb (length (b .purses)) p hp, t .well p hp, le-ltb 31 p (omega (arith, t .few)))
+
+-- an abort at no purse of the table changes nothing
+abort-none : (b : Bench) (p : ℕ) → tableOk b ≡ true → length (b .purses) ≤ p → step b (abortOf p) .bench ≡ b
+unfolding step decoded acting
+abort-none b p w hp = rw (w, le-leb (length (b .purses)) p hp)
+
+-- idle stays idle
+abort-idle : (b : Bench) (p : ℕ) → tableOk b ≡ true → (k : ℕ) → (k ≡ p) ⊎ (purseAt b k .status ≡ 0) → k < length (b .purses) → purseAt (step b (abortOf p) .bench) k .status ≡ 0
+abort-idle b p w k h hk =
+    ⊎-elim
+    (λ (e : ltb p (length (b .purses)) ≡ true).
+    let hp : p < length (b .purses) = ltb-true _ _ e in
+    rw (abort-step b p w hp)
+    (put-cases b p (aborted (purseAt b p)) hp k (λ (o n : Purse). (k ≡ p) ⊎ (o .status ≡ 0) → n .status ≡ 0)
+    (λ e i. aborted-idle (purseAt b p))
+    (λ e r i. ⊎-elim (λ (j : k ≡ p). absurd (e j)) (λ (j : r .status ≡ 0). j) i)
+    h))
+    (λ (e : ltb p (length (b .purses)) ≡ false).
+    let hp : length (b .purses) ≤ p = ltb-false _ _ e in
+    rw (abort-none b p w hp)
+    (⊎-elim (λ (j : k ≡ p). absurd (omega arith)) (λ (j : purseAt b k .status ≡ 0). j) h))
+    (which (ltb p (length (b .purses))))
+
+pub aborts-idle : (b : Bench) (ps : List ℕ) → tableOk b ≡ true → (k : ℕ) → k < length (b .purses) → (among eqb k ps ≡ true) ⊎ (purseAt b k .status ≡ 0) → purseAt (run b (map abortOf ps)) k .status ≡ 0
+aborts-idle b [] w k hk h = ⊎-elim (λ (e : false ≡ true). let z : _≡_ {A = ℕ} 0 1 = cc in absurd (omega arith)) (λ (e : purseAt b k .status ≡ 0). e) h
+aborts-idle b (p ∷ ps) w k hk h =
+    aborts-idle (step b (abortOf p) .bench) ps (keep-step b (abortOf p) w) k (rw (step-length b (abortOf p) w) hk)
+    (⊎-elim
+    (λ (e : (eqb k p || among eqb k ps) ≡ true).
+    ⊎-elim (λ (f : eqb k p ≡ true). inr (abort-idle b p w k (inl (eqb-true _ _ f)) hk)) (λ (f : among eqb k ps ≡ true). inl f)
+    (either (eqb k p) (among eqb k ps) e))
+    (λ (e : purseAt b k .status ≡ 0). inr (abort-idle b p w k (inr e) hk))
+    h)
+
+-- past the table there is no busy purse
+pub beyond : (b : Bench) (k : ℕ) → length (b .purses) ≤ k → purseAt b k .status ≡ 0
+beyond b k h = ap (λ (q : Purse). q .status) (List·getD-eq-default (b .purses) zeroPurse h)

@@ -1,0 +1,1 @@
+// Whether a bench's table and desk obey the rules.
