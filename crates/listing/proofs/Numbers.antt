@@ -1,4 +1,4 @@
--- Numbers read one after the other, and laid on places.
+-- The balances of an opening: when they are all there, and when not; and a table's first records.
 -- Assumes nothing.
 use mathlib.Core.Path.{_≡_, refl, sym, ap, _∙_}
 use Prim.Native.Nat.{ℕ, zero, suc, _+_, _-_, _*_, _<_, _≤_, min}
@@ -14,31 +14,10 @@ use borrow.Author.Tests.{lt-leb, le-leb, leb-true, leb-false}
 use lib.Seq.{take-all, set-append-seam, append-snoc}
 use Rattle.purse.proofs.Bools.{which}
 use Rattle.purse.specs.Lists.{padded}
-use Rattle.rules.specs.Events.{number}
+use Rattle.codec.specs.Bytes.{numberAt}
+use Rattle.codec.proofs.Gets.{length-many}
 use Rattle.listing.specs.declared.Opening.{Opening}
-use Rattle.listing.specs.Opening.{numbers, wholeOpening, balancesIn, openingIn}
-
-pub length-numbers : (n : ℕ) (l : List ℕ) (at : ℕ) → length (numbers n l at) ≡ n
-unfolding numbers
-length-numbers zero l at = refl
-length-numbers (suc n) l at = ap suc (length-numbers n l (at + 4))
-
--- one number more
-pub numbers-more : (n : ℕ) (l : List ℕ) (at from : ℕ) → from ≡ at + 4 * n → numbers (n + 1) l at ≡ numbers n l at ++ (number l from ∷ [])
-unfolding numbers
-numbers-more zero l at from e = let same : from ≡ at = omega arith in rw same
-numbers-more (suc n) l at from e =
-    let next : suc n + 1 ≡ suc (n + 1) = omega arith in
-    rw next (ap (λ (t : List ℕ). number l at ∷ t) (numbers-more n l (at + 4) from (omega arith)))
-
--- one place more is used
-pub set-padded : {A : Type 0} (n : ℕ) (z : A) (xs : List A) (i : ℕ) (v : A) → length xs ≡ i → i < n
-    → set (padded n z xs) i v ≡ padded n z (xs ++ (v ∷ []))
-set-padded n z xs i v e h =
-    let room : n - length xs ≡ suc (n - length (xs ++ (v ∷ []))) = rw (length-append xs (v ∷ [])) (omega arith) in
-    rw (← e, room)
-    (set-append-seam xs z (replicate (n - length (xs ++ (v ∷ []))) z) v
-    ∙ sym (append-snoc xs v (replicate (n - length (xs ++ (v ∷ []))) z)))
+use Rattle.listing.specs.Opening.{balancesAt, wholeOpening, balancesIn, openingIn}
 
 empty : (l : List ℕ) → length l < 1 → l ≡ []
 empty [] h = refl
@@ -59,10 +38,10 @@ module _ (l : List ℕ) where
   too-few h k = no-balances (simp (le-leb (getD l 0 0) 32 h, lt-leb (1 + 4 * getD l 0 0) (length l) k))
 
   pub all-there : getD l 0 0 ≤ 32 → 1 + 4 * getD l 0 0 ≤ length l
-      → record { count = getD l 0 0; balances = padded 32 0 (numbers (getD l 0 0) l 1) } ≡ openingIn l
+      → record { count = getD l 0 0; balances = padded 32 0 (balancesAt (getD l 0 0) l 1) } ≡ openingIn l
   unfolding wholeOpening openingIn balancesIn
   all-there h k =
-      simp (le-leb (getD l 0 0) 32 h, le-leb (1 + 4 * getD l 0 0) (length l) k, length-numbers (getD l 0 0) l 1)
+      simp (le-leb (getD l 0 0) 32 h, le-leb (1 + 4 * getD l 0 0) (length l) k, length-many (numberAt 4) 4 (getD l 0 0) l 1)
 
 -- no byte at all
 pub nothing-there : (l : List ℕ) → length l < 1 → record { count = 0; balances = replicate 32 0 } ≡ openingIn l

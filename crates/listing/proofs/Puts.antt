@@ -8,14 +8,10 @@ use native.Mathlib.Numerals.{add-one}
 use native.Mathlib.Omega.{arith}
 use mathlib.Core.List.{List, [], _∷_, _++_, append-assoc, append-nil}
 use lib.ListN.{length, take, getD, set, length-append}
-use lib.Seq.{sets, length-sets, take-suc}
-use Rattle.listing.specs.Text.{put, Written, Filled, numbered}
-
-sets-append : (l : List ℕ) (i : ℕ) (vs ws : List ℕ) → sets (sets l i vs) (i + length vs) ws ≡ sets l i (vs ++ ws)
-sets-append l i [] ws = rw add-zero
-sets-append l i (v ∷ vs) ws =
-    let e : i + suc (length vs) ≡ suc i + length vs = omega arith in
-    rw e (sets-append (set l i v) (suc i) vs ws)
+use lib.Seq.{take-suc}
+use Rattle.codec.specs.Bytes.{put, byte}
+use Rattle.codec.proofs.Puts.{then-put}
+use Rattle.listing.specs.Text.{Written, Filled, numbered}
 
 -- nothing put
 pub put-nothing : (l : List ℕ) (at : ℕ) → Written l at [] at l
@@ -27,18 +23,17 @@ pub put-one : (l : List ℕ) (at v : ℕ) → Written l at (v ∷ []) (at + 1) (
 unfolding put
 put-one l at v = record { behind = refl; holds = refl }
 
-pub length-put : (l : List ℕ) (at : ℕ) (vs : List ℕ) → length (put l at vs) ≡ length l
-unfolding put
-length-put l at vs = length-sets l at vs
-
 -- one run after another
 pub then : {l l₁ l₂ vs ws : List ℕ} {at j k : ℕ} → Written l at vs j l₁ → Written l₁ j ws k l₂ → Written l at (vs ++ ws) k l₂
-unfolding put
 then {l} {l₁} {l₂} {vs} {ws} {at} {j} {k} p q =
     record {
       behind = q .behind ∙ rw (p .behind, length-append vs ws) (add-assoc at (length vs) (length ws));
-      holds = q .holds ∙ rw (p .holds, p .behind) (sets-append l at vs ws);
+      holds = then-put l at vs ws (p .holds) (p .behind) (q .holds);
     }
+
+-- one byte, as `put_byte` says it
+pub one-byte : {l l′ : List ℕ} {at v j : ℕ} → (j ≡ at + 1) × (l′ ≡ put l at (byte v)) → Written l at (byte v) j l′
+one-byte p = record { behind = p .0; holds = p .1 }
 
 -- the same bytes, otherwise written
 pub same-bytes : {l l′ vs ws : List ℕ} {at j : ℕ} → vs ≡ ws → Written l at vs j l′ → Written l at ws j l′

@@ -1,17 +1,16 @@
 -- "Standard input: purse count, 4 bytes a balance, then events. Too few opening bytes count as 20."
-use Prim.Native.Nat.{ℕ, zero, suc, _+_, _*_}
+use Prim.Native.Nat.{ℕ, _+_, _*_}
 use mathlib.Core.Bool.{Bool, _&&_, cond}
 use mathlib.Core.List.{List, [], _∷_}
 use lib.ListN.{length, getD}
 use lib.Dec.{leb}
 use Rattle.purse.specs.Lists.{padded}
-use Rattle.rules.specs.Events.{number}
+use Rattle.codec.specs.Bytes.{numberAt, many}
 use Rattle.listing.specs.declared.Opening.{Opening}
 
--- n numbers of four bytes, one after the other
-unfoldable pub numbers : ℕ → List ℕ → ℕ → List ℕ
-numbers zero l at = []
-numbers (suc n) l at = number l at ∷ numbers n l (at + 4)
+-- n balances of four bytes, one after the other
+abbrev pub balancesAt : ℕ → List ℕ → ℕ → List ℕ
+balancesAt n l at = many (numberAt 4) 4 n l at
 
 -- how many balance bytes follow a purse count: none behind a count that opening refuses
 abbrev pub balanceBytes : ℕ → ℕ
@@ -23,7 +22,7 @@ wholeOpening l = leb (getD l 0 0) 32 && leb (1 + 4 * getD l 0 0) (length l)
 
 -- the balances; none where there are too few bytes or the count is above 32: opening then answers 20
 unfoldable pub balancesIn : List ℕ → List ℕ
-balancesIn l = cond (wholeOpening l) (numbers (getD l 0 0) l 1) []
+balancesIn l = cond (wholeOpening l) (balancesAt (getD l 0 0) l 1) []
 
 -- the balances laid on 32 places
 unfoldable pub openingIn : List ℕ → Opening

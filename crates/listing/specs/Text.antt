@@ -5,11 +5,7 @@ use mathlib.Core.Bool.{Bool, cond}
 use mathlib.Core.List.{List, [], _∷_, _++_}
 use lib.ListN.{length}
 use lib.Dec.{ltb}
-use lib.Seq.{sets}
-
--- a buffer with other bytes from a place on, all else as it was
-unfoldable pub put : List ℕ → ℕ → List ℕ → List ℕ
-put l at bytes = sets l at bytes
+use Rattle.codec.specs.Bytes.{put, byte}
 
 -- what is left where bytes were put from a place on: the place behind them, and the buffer
 pub record Written (l : List ℕ) (at : ℕ) (bytes : List ℕ) (next : ℕ) (l′ : List ℕ) : Type 0 where
@@ -27,7 +23,7 @@ digit n = 48 + n
 -- a number's decimal digits, at most so many, without leading zeros
 unfoldable pub digits : ℕ → ℕ → List ℕ
 digits zero n = []
-digits (suc k) n = cond (ltb n 10) (digit n ∷ []) (digits k (n / 10) ++ (digit (n % 10) ∷ []))
+digits (suc k) n = cond (ltb n 10) (byte (digit n)) (digits k (n / 10) ++ byte (digit (n % 10)))
 
 -- a number of 64 bits has at most 20 digits
 abbrev pub decimal : ℕ → List ℕ
@@ -35,10 +31,10 @@ decimal n = digits 20 n
 
 -- a number behind a space
 abbrev pub field : ℕ → List ℕ
-field n = (32 ∷ []) ++ decimal n
+field n = byte 32 ++ decimal n
 
 abbrev pub lineEnd : List ℕ
-lineEnd = 10 ∷ []
+lineEnd = byte 10
 
 -- the line of each member, one after the other, numbered from k on
 unfoldable pub numbered : {A : Type 0} → (ℕ → A → List ℕ) → ℕ → List A → List ℕ

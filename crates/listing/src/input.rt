@@ -1,28 +1,11 @@
 // The input's opening bytes: purse count, then 4 bytes a balance.
 use crate::Opening;
+use codec::numbers::get_number;
 ghost use mathlib.Core.Path.{_≡_};
 ghost use Prim.Native.Nat.{_+_, _*_, _≤_, _<_};
 ghost use lib.ListN.{length};
 ghost use Rattle.purse.specs.Lists.{padded};
-ghost use Rattle.rules.specs.Events.{number};
-ghost use Rattle.listing.specs.Opening.{numbers, balanceBytes, openingIn};
-
-fn wide(x: u8) -> u32
-    ensures { λ r. ⌜ (r ≡ x) × (r < 256) ⌝ }
-{
-    x as u32
-}
-
-fn number(l: &[u8], at: usize) -> u32
-    requires { ⌜ at + 4 ≤ length (now l) ⌝ }
-    ensures { λ r. ⌜ r ≡ number (now (l .entry)) at ⌝ }
-{
-    let a = wide(l[at]);
-    let b = wide(l[at + 1]);
-    let c = wide(l[at + 2]);
-    let d = wide(l[at + 3]);
-    ((a * 256 + b) * 256 + c) * 256 + d
-}
+ghost use Rattle.listing.specs.Opening.{balancesAt, balanceBytes, openingIn};
 
 // How many balance bytes follow a purse count: none behind a count that opening refuses.
 pub fn balance_bytes(count: u8) -> usize
@@ -34,13 +17,13 @@ pub fn balance_bytes(count: u8) -> usize
 // As many balances, one after the other.
 fn balances(l: &[u8], count: usize) -> [u32; 32]
     requires { ⌜ (count ≤ 32) × (1 + 4 * count ≤ length (now l)) ⌝ }
-    ensures { λ r. ⌜ r ≡ padded 32 0 (numbers count (now (l .entry)) 1) ⌝ }
+    ensures { λ r. ⌜ r ≡ padded 32 0 (balancesAt count (now (l .entry)) 1) ⌝ }
 {
     let mut all = [0u32; 32];
     let mut i: usize = 0;
     let mut from: usize = 1;
     while i < count {
-        all[i] = number(l, from);
+        all[i] = get_number(l, from);
         from += 4;
         i += 1;
     }

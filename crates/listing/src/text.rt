@@ -1,18 +1,10 @@
 // Text and decimal numbers put into a buffer from a place on; each answers the place behind what it put.
+use codec::numbers::put_byte;
 ghost use mathlib.Core.Path.{_≡_};
 ghost use Prim.Native.Nat.{_+_, _≤_, _<_};
-ghost use mathlib.Core.List.{_∷_, [], _++_};
+ghost use mathlib.Core.List.{_++_};
 ghost use lib.ListN.{length};
 ghost use Rattle.listing.specs.Text.{Written, digits, decimal, field};
-
-pub(crate) fn put_byte(out: &mut [u8], at: usize, byte: u8) -> usize
-    requires { ⌜ at + 1 ≤ length (now out) ⌝ }
-    ensures { λ r. ⌜ Written (now (out .entry)) at (byte ∷ []) r (now (out .exit)) ⌝ }
-    ensures { λ r. ⌜ r ≡ at + 1 ⌝ }
-{
-    out[at] = byte;
-    at + 1
-}
 
 pub(crate) fn put_text(out: &mut [u8], at: usize, text: &[u8]) -> usize
     requires { ⌜ at + length (now text) ≤ length (now out) ⌝ }

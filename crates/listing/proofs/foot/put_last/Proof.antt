@@ -1,12 +1,12 @@
 use Rattle.listing.specs.Text.{field}
 use Rattle.listing.specs.Listing.{lastLine}
-use Rattle.listing.proofs.Puts.{then, then-two}
+use Rattle.listing.proofs.Puts.{then, one-byte, then-two}
 use borrow.Author.Needs.{needs}
 use Rattle.listing.proofs.foot.put_last.Statement.{statement}
 use Rattle.listing.proofs.foot.put_last.Tie as tie
 use Rattle.listing.proofs.foot.put_last.Reads as reads
 use Rattle.listing.proofs.foot.put_last.Lts as lts
-use Rattle.listing.proofs.text.put_byte.Reads as put-byte-reads
+use Rattle.codec.proofs.numbers.put_byte.Reads as put-byte-reads
 use Rattle.listing.proofs.text.put_named.Reads as put-named-reads
 
 -- src/foot.rt:44:33
@@ -51,7 +51,7 @@ returns c =
     let messages = archive .before .before .before .before .before in
     let args = messages .before .before .before .before .args in
     let counts = then-two _ _ (field (args .archive)) (messages .put-named .ensures .0) (archive .put-named2 .ensures .0) in
-    then (then-two _ _ (field (args .claims)) counts (claims .put-named3 .ensures .0)) (called .put-byte .ensures .0)
+    then (then-two _ _ (field (args .claims)) counts (claims .put-named3 .ensures .0)) (one-byte (called .put-byte .ensures))
 
 pub put-last-spec : {M : Type 1} → statement M
 put-last-spec =

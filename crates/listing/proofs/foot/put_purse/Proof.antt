@@ -1,13 +1,13 @@
 use native.Mathlib.Omega.{arith}
 use Rattle.listing.specs.Text.{field}
 use Rattle.listing.specs.Listing.{purseLine}
-use Rattle.listing.proofs.Puts.{then, then-two}
+use Rattle.listing.proofs.Puts.{then, one-byte, then-two}
 use borrow.Author.Needs.{needs}
 use Rattle.listing.proofs.foot.put_purse.Statement.{statement}
 use Rattle.listing.proofs.foot.put_purse.Tie as tie
 use Rattle.listing.proofs.foot.put_purse.Reads as reads
 use Rattle.listing.proofs.foot.put_purse.Lts as lts
-use Rattle.listing.proofs.text.put_byte.Reads as put-byte-reads
+use Rattle.codec.proofs.numbers.put_byte.Reads as put-byte-reads
 use Rattle.listing.proofs.text.put_named.Reads as put-named-reads
 use Rattle.listing.proofs.text.put_two.Reads as put-two-reads
 
@@ -69,8 +69,8 @@ returns c =
     let p = name .before .before .before .before .args .p in
     let first = then-two _ (field (p .balance .0)) (field (p .next .0)) (name .put-named .ensures .0) (money .put-two .ensures .0) in
     let fields = then-two _ (field (p .status)) (field (p .logged)) first (state .put-two2 .ensures .0) in (
-      then fields (called .put-byte .ensures .0),
-      omega (arith, called .put-byte .ensures .1, state .put-two2 .ensures .1, money .put-two .ensures .1, name .put-named .ensures .1),
+      then fields (one-byte (called .put-byte .ensures)),
+      omega (arith, called .put-byte .ensures .0, state .put-two2 .ensures .1, money .put-two .ensures .1, name .put-named .ensures .1),
     )
 
 pub put-purse-spec : {M : Type 1} → statement M

@@ -1,11 +1,11 @@
 use Rattle.listing.specs.Listing.{eventLine}
-use Rattle.listing.proofs.Puts.{then}
+use Rattle.listing.proofs.Puts.{then, one-byte}
 use borrow.Author.Needs.{needs}
 use Rattle.listing.proofs.lines.put_event.Statement.{statement}
 use Rattle.listing.proofs.lines.put_event.Tie as tie
 use Rattle.listing.proofs.lines.put_event.Reads as reads
 use Rattle.listing.proofs.lines.put_event.Lts as lts
-use Rattle.listing.proofs.text.put_byte.Reads as put-byte-reads
+use Rattle.codec.proofs.numbers.put_byte.Reads as put-byte-reads
 use Rattle.listing.proofs.text.put_field.Reads as put-field-reads
 use Rattle.listing.proofs.text.put_number.Reads as put-number-reads
 
@@ -31,7 +31,7 @@ unfolding eventLine
 returns c =
     let called = c .before .before in
     let fields = then (called .before .before .before .before .before .before .before .before .put-number .ensures .0) (called .before .before .before .before .put-field .ensures .0) in
-    (then fields (called .put-byte .ensures .0), search needs)
+    (then fields (one-byte (called .put-byte .ensures)), search needs)
 
 pub put-event-spec : {M : Type 1} → statement M
 put-event-spec =

@@ -1,12 +1,12 @@
 use borrow.Author.Tests.{lt-leb, le-leb}
 use Rattle.listing.specs.Listing.{openingLine}
-use Rattle.listing.proofs.Puts.{then, filled, not-filled}
+use Rattle.listing.proofs.Puts.{then, one-byte, filled, not-filled}
 use borrow.Author.Needs.{needs}
 use Rattle.listing.proofs.lines.refused.Statement.{statement}
 use Rattle.listing.proofs.lines.refused.Tie as tie
 use Rattle.listing.proofs.lines.refused.Reads as reads
 use Rattle.listing.proofs.lines.refused.Lts as lts
-use Rattle.listing.proofs.text.put_byte.Reads as put-byte-reads
+use Rattle.codec.proofs.numbers.put_byte.Reads as put-byte-reads
 use Rattle.listing.proofs.text.put_named.Reads as put-named-reads
 
 -- src/lines.rt:29:9
@@ -34,7 +34,7 @@ returns-2 : tie.Need-returns-2
 unfolding openingLine
 returns-2 c =
     let called = c .before .before in
-    filled (le-leb _ _ (called .before .before .before .before .before .before .before .if1 .left)) (then (called .before .before .before .before .put-named .ensures .0) (called .put-byte .ensures .0))
+    filled (le-leb _ _ (called .before .before .before .before .before .before .before .if1 .left)) (then (called .before .before .before .before .put-named .ensures .0) (one-byte (called .put-byte .ensures)))
 
 pub refused-spec : {M : Type 1} → statement M
 refused-spec =

@@ -1,7 +1,7 @@
 use mathlib.Core.Path.{_≡_, sym, ap, _∙_}
 use mathlib.Core.List.{[], _∷_, _++_}
 use Rattle.listing.specs.Text.{digits}
-use Rattle.listing.proofs.Puts.{put-nothing, same-bytes, then}
+use Rattle.listing.proofs.Puts.{put-nothing, one-byte, same-bytes, then}
 use Rattle.listing.proofs.Digits.{digits-none, digits-one, digits-more}
 use borrow.Author.Needs.{needs}
 use Prim.Native.Nat.{ℕ, _<_, _-_, _/_}
@@ -11,7 +11,7 @@ use Rattle.listing.proofs.text.put_digits.Reads as put-digits
 use Rattle.listing.proofs.text.put_digits.Kinds as put-digits-kinds
 use Rattle.listing.proofs.text.+put_digits.Lts-put_digits as put-digits-lts
 use Rattle.listing.proofs.text.digit.Reads as digit-reads
-use Rattle.listing.proofs.text.put_byte.Reads as put-byte-reads
+use Rattle.codec.proofs.numbers.put_byte.Reads as put-byte-reads
 use Rattle.listing.proofs.text.+put_digits.{statement}
 use Rattle.listing.proofs.text.+put_digits.Tie.{close}
 
@@ -52,7 +52,7 @@ put-digits-returns-2 t c =
     let digit-called = called .before .before in
     let start = digit-called .before .before .before .before in
     let one = digits-one (start .args .places) (start .args .n) (digit-called .before .before .if1 .left) (digit-called .before .if2 .taken) in
-    (same-bytes (ap (λ (v : ℕ). v ∷ []) (digit-called .digit .ensures) ∙ sym one) (called .put-byte .ensures .0), search needs)
+    (same-bytes (ap (λ (v : ℕ). v ∷ []) (digit-called .digit .ensures) ∙ sym one) (one-byte (called .put-byte .ensures)), search needs)
 
 -- src/text.rt:52:34
 put-digits-sub-put-digits : (t : ℕ) → put-digits-lts.Need-sub-put-digits (digit-reads.Asked, digit-reads.Learnt, put-byte-reads.Asked, put-byte-reads.Learnt, put-digits-below t, put-digits.Post) (put-digits-at t) put-digits.Post
@@ -86,7 +86,7 @@ put-digits-returns-3 t c =
     let more = digits-more places n (rest-called .before .before .before .if1 .left) (rest-called .before .before .if2 .left) in (
       same-bytes
           (ap (λ (v : ℕ). digits (places - 1) (n / 10) ++ (v ∷ [])) (digit-called .digit2 .ensures) ∙ sym more)
-          (then (rest-called .put-digits .ensures .0) (called .put-byte2 .ensures .0)),
+          (then (rest-called .put-digits .ensures .0) (one-byte (called .put-byte2 .ensures))),
       search needs,
     )
 

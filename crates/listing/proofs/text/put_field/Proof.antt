@@ -1,10 +1,10 @@
-use Rattle.listing.proofs.Puts.{then}
+use Rattle.listing.proofs.Puts.{then, one-byte}
 use borrow.Author.Needs.{needs}
 use Rattle.listing.proofs.text.put_field.Statement.{statement}
 use Rattle.listing.proofs.text.put_field.Tie as tie
 use Rattle.listing.proofs.text.put_field.Reads as reads
 use Rattle.listing.proofs.text.put_field.Lts as lts
-use Rattle.listing.proofs.text.put_byte.Reads as put-byte-reads
+use Rattle.codec.proofs.numbers.put_byte.Reads as put-byte-reads
 use Rattle.listing.proofs.text.put_number.Reads as put-number-reads
 
 -- src/text.rt:70:9
@@ -23,7 +23,7 @@ same-length c = search needs
 returns : tie.Need-returns
 returns c =
     let called = c .before .before in
-    (then (called .before .before .before .before .put-byte .ensures .0) (called .put-number .ensures .0), search needs)
+    (then (one-byte (called .before .before .before .before .put-byte .ensures)) (called .put-number .ensures .0), search needs)
 
 pub put-field-spec : {M : Type 1} → statement M
 put-field-spec = tie.close (tie.spec put-byte-requires put-number-requires same-length returns)
