@@ -1,9 +1,10 @@
 // The bench program's listing: bytes filled into a buffer that the caller lends, and the opening bytes of its input read.
 mod text; // text.rt: text and decimal numbers
 mod lines; // lines.rt: the listing's lines
-mod foot; // foot.rt: the purse lines and the last line
+mod purses; // purses.rt: the purse lines and the last line
 mod input; // input.rt: purse count and balances
 
+pub use purses::foot;
 pub use input::balance_bytes;
 pub use input::read_opening;
 pub use lines::events;

@@ -3,10 +3,10 @@ use Rattle.listing.specs.Text.{field}
 use Rattle.listing.specs.Listing.{purseLine}
 use Rattle.listing.proofs.Puts.{then, one-byte, then-two}
 use borrow.Author.Needs.{needs}
-use Rattle.listing.proofs.foot.put_purse.Statement.{statement}
-use Rattle.listing.proofs.foot.put_purse.Tie as tie
-use Rattle.listing.proofs.foot.put_purse.Reads as reads
-use Rattle.listing.proofs.foot.put_purse.Lts as lts
+use Rattle.listing.proofs.purses.put_purse.Statement.{statement}
+use Rattle.listing.proofs.purses.put_purse.Tie as tie
+use Rattle.listing.proofs.purses.put_purse.Reads as reads
+use Rattle.listing.proofs.purses.put_purse.Lts as lts
 use Rattle.codec.proofs.numbers.put_byte.Reads as put-byte-reads
 use Rattle.listing.proofs.text.put_named.Reads as put-named-reads
 use Rattle.listing.proofs.text.put_two.Reads as put-two-reads

@@ -2,10 +2,10 @@ use Rattle.listing.specs.Text.{field}
 use Rattle.listing.specs.Listing.{lastLine}
 use Rattle.listing.proofs.Puts.{then, one-byte, then-two}
 use borrow.Author.Needs.{needs}
-use Rattle.listing.proofs.foot.put_last.Statement.{statement}
-use Rattle.listing.proofs.foot.put_last.Tie as tie
-use Rattle.listing.proofs.foot.put_last.Reads as reads
-use Rattle.listing.proofs.foot.put_last.Lts as lts
+use Rattle.listing.proofs.purses.put_last.Statement.{statement}
+use Rattle.listing.proofs.purses.put_last.Tie as tie
+use Rattle.listing.proofs.purses.put_last.Reads as reads
+use Rattle.listing.proofs.purses.put_last.Lts as lts
 use Rattle.codec.proofs.numbers.put_byte.Reads as put-byte-reads
 use Rattle.listing.proofs.text.put_named.Reads as put-named-reads
 

@@ -10,11 +10,11 @@ use Rattle.listing.specs.Text.{Written, numbered}
 use Rattle.listing.specs.Listing.{purseLine}
 use Rattle.listing.proofs.Puts.{put-nothing, line-more}
 use borrow.Author.Needs.{needs}
-use Rattle.listing.proofs.foot.put_purses.Statement.{statement}
-use Rattle.listing.proofs.foot.put_purses.Tie as tie
-use Rattle.listing.proofs.foot.put_purses.Reads as reads
-use Rattle.listing.proofs.foot.put_purses.Lts as lts
-use Rattle.listing.proofs.foot.put_purse.Reads as put-purse-reads
+use Rattle.listing.proofs.purses.put_purses.Statement.{statement}
+use Rattle.listing.proofs.purses.put_purses.Tie as tie
+use Rattle.listing.proofs.purses.put_purses.Reads as reads
+use Rattle.listing.proofs.purses.put_purses.Lts as lts
+use Rattle.listing.proofs.purses.put_purse.Reads as put-purse-reads
 
 -- what the checker takes for an element past the table's end
 abbrev pastPurse : Purse

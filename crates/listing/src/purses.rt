@@ -7,8 +7,9 @@ use purse::Purse;
 ghost use mathlib.Core.Path.{_≡_};
 ghost use Prim.Native.Nat.{_+_, _*_, _≤_, min};
 ghost use lib.ListN.{length, take};
-ghost use Rattle.listing.specs.Text.{Written, numbered};
-ghost use Rattle.listing.specs.Listing.{purseLine, lastLine, footWith, footRoom};
+ghost use lib.Dec.{leb};
+ghost use Rattle.listing.specs.Text.{Written, Filled, numbered};
+ghost use Rattle.listing.specs.Listing.{purseLine, lastLine, footWith, footOf, footRoom};
 
 fn put_purse(out: &mut [u8], at: usize, name: usize, p: Purse) -> usize
     requires { ⌜ at + 111 ≤ length (now out) ⌝ }
@@ -64,4 +65,15 @@ fn put_foot(out: &mut [u8], held: Held, claims: u32) -> usize
     let messages = held.desk.ether.count;
     let archive = held.desk.archive.count;
     put_last(out, to, messages, archive, claims)
+}
+
+// The purse lines and the last line. The claims figure is the bench's own.
+pub fn foot(out: &mut [u8], held: Held) -> usize
+    ensures { λ r. ⌜ Filled (leb footRoom (length (now (out .entry)))) (footOf held) (now (out .entry)) r (now (out .exit)) ⌝ }
+{
+    if out.len() < 4096 {
+        return 0;
+    }
+    let figure = bench::claims(held);
+    put_foot(out, held, figure.claims)
 }

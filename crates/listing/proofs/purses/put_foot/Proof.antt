@@ -9,13 +9,13 @@ use Rattle.listing.specs.Listing.{purseLine, footWith}
 use Rattle.listing.proofs.Puts.{then, same-bytes}
 use Rattle.listing.proofs.Numbers.{take-least}
 use borrow.Author.Needs.{needs}
-use Rattle.listing.proofs.foot.put_foot.Statement.{statement}
-use Rattle.listing.proofs.foot.put_foot.Tie as tie
-use Rattle.listing.proofs.foot.put_foot.Reads as reads
-use Rattle.listing.proofs.foot.put_foot.Lts as lts
-use Rattle.listing.proofs.foot.put_last.Reads as put-last-reads
-use Rattle.listing.proofs.foot.put_purses.Reads as put-purses-reads
-use Rattle.listing.proofs.foot.shown.Reads as shown-reads
+use Rattle.listing.proofs.purses.put_foot.Statement.{statement}
+use Rattle.listing.proofs.purses.put_foot.Tie as tie
+use Rattle.listing.proofs.purses.put_foot.Reads as reads
+use Rattle.listing.proofs.purses.put_foot.Lts as lts
+use Rattle.listing.proofs.purses.put_last.Reads as put-last-reads
+use Rattle.listing.proofs.purses.put_purses.Reads as put-purses-reads
+use Rattle.listing.proofs.purses.shown.Reads as shown-reads
 
 -- src/foot.rt:62:9
 shown-requires : tie.Need-shown-requires
