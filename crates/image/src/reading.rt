@@ -1,0 +1,106 @@
+// The table and the desk that bytes give: one loop for each kind of record.
+use codec::numbers::get_count;
+use codec::records::{get_entry, get_message, get_purse};
+use desk::Archive;
+use desk::Desk;
+use desk::Entry;
+use desk::Ether;
+use desk::Held;
+use purse::Message;
+use purse::Purse;
+ghost use mathlib.Core.Path.{_≡_};
+ghost use mathlib.Core.List.{_++_};
+ghost use Prim.Native.Nat.{_+_, _*_, _-_, _≤_};
+ghost use lib.ListN.{length, replicate};
+ghost use Rattle.purse.specs.Details.{zeroMessage};
+ghost use Rattle.purse.specs.Purse.{zeroPurse};
+ghost use Rattle.purse.specs.Tests.{first};
+ghost use Rattle.desk.specs.Desk.{zeroEntry};
+ghost use Rattle.codec.specs.Bytes.{many};
+ghost use Rattle.codec.specs.Records.{purseAt, messageAt, entryAt};
+ghost use Rattle.image.specs.Head.{headTests};
+ghost use Rattle.image.specs.Image.{benchIn};
+
+pub fn get_purses(s: &[u8], at: usize, count: u8) -> [Purse; 32]
+    requires { ⌜ (count ≤ 32) × (at + 136 * count ≤ length (now s)) ⌝ }
+    ensures { λ r. ⌜ r ≡ many purseAt 136 count (now (s .entry)) at ++ replicate (32 - count) zeroPurse ⌝ }
+{
+    let n = count as usize;
+    let z = Purse::zero();
+    let mut table = [z; 32];
+    let mut i: usize = 0;
+    let mut from = at;
+    while i < n {
+        let p = get_purse(s, from);
+        table[i] = p;
+        from += 136;
+        i += 1;
+    }
+    table
+}
+
+pub fn get_messages(s: &[u8], at: usize, count: u16) -> Ether
+    requires { ⌜ (count ≤ 256) × (at + 15 * count ≤ length (now s)) ⌝ }
+    ensures { λ r. ⌜ r ≡ record { places = many messageAt 15 count (now (s .entry)) at ++ replicate (256 - count) zeroMessage; count = count } ⌝ }
+{
+    let n = count as usize;
+    let z = Message::zero();
+    let mut places = [z; 256];
+    let mut i: usize = 0;
+    let mut from = at;
+    while i < n {
+        let m = get_message(s, from);
+        places[i] = m;
+        from += 15;
+        i += 1;
+    }
+    Ether {
+        places: places,
+        count: count,
+    }
+}
+
+pub fn get_entries(s: &[u8], at: usize, count: u16) -> Archive
+    requires { ⌜ (count ≤ 256) × (at + 15 * count ≤ length (now s)) ⌝ }
+    ensures { λ r. ⌜ r ≡ record { places = many entryAt 15 count (now (s .entry)) at ++ replicate (256 - count) zeroEntry; count = count } ⌝ }
+{
+    let n = count as usize;
+    let z = Entry::zero();
+    let mut places = [z; 256];
+    let mut i: usize = 0;
+    let mut from = at;
+    while i < n {
+        let e = get_entry(s, from);
+        places[i] = e;
+        from += 15;
+        i += 1;
+    }
+    Archive {
+        places: places,
+        count: count,
+    }
+}
+
+// The bench of an image whose head is right.
+pub fn get_bench(s: &[u8]) -> Held
+    requires { ⌜ first (headTests (now s)) ≡ 0 ⌝ }
+    ensures { λ r. ⌜ r ≡ benchIn (now (s .entry)) ⌝ }
+{
+    let purses = s[5];
+    let messages = get_count(s, 6);
+    let entries = get_count(s, 8);
+    let b = 10 + 136 * (purses as usize);
+    let c = b + 15 * (messages as usize);
+    let table = get_purses(s, 10, purses);
+    let ether = get_messages(s, b, messages);
+    let archive = get_entries(s, c, entries);
+    let desk = Desk {
+        purses: purses,
+        ether: ether,
+        archive: archive,
+    };
+    Held {
+        table: table,
+        desk: desk,
+    }
+}

@@ -1,0 +1,76 @@
+// The table and the desk as bytes: one loop for each kind of record.
+use crate::head::put_head;
+use codec::records::{put_entry, put_message, put_purse};
+use desk::Archive;
+use desk::Desk;
+use desk::Ether;
+use desk::Held;
+use purse::Purse;
+ghost use mathlib.Core.Path.{_≡_};
+ghost use mathlib.Core.Bool.{true};
+ghost use Prim.Native.Nat.{_+_, _*_, _≤_};
+ghost use lib.ListN.{length, take};
+ghost use Rattle.codec.specs.Bytes.{put, flat};
+ghost use Rattle.codec.specs.Records.{purseBytes, messageBytes, entryBytes};
+ghost use Rattle.rules.specs.Laid.{heldOk};
+ghost use Rattle.image.specs.Image.{imageOf};
+
+pub fn put_purses(out: &mut [u8], at: usize, table: [Purse; 32], count: u8) -> usize
+    requires { ⌜ (count ≤ 32) × (at + 136 * count ≤ length (now out)) ⌝ }
+    ensures { λ r. ⌜ (r ≡ at + 136 * count) × (now (out .exit) ≡ put (now (out .entry)) at (flat purseBytes (take count table))) × (length (flat purseBytes (take count table)) ≡ 136 * count) ⌝ }
+{
+    let n = count as usize;
+    let mut i: usize = 0;
+    let mut to = at;
+    while i < n {
+        let p = table[i];
+        to = put_purse(out, to, p);
+        i += 1;
+    }
+    to
+}
+
+pub fn put_messages(out: &mut [u8], at: usize, e: Ether) -> usize
+    requires { ⌜ (e .count ≤ 256) × (at + 15 * e .count ≤ length (now out)) ⌝ }
+    ensures { λ r. ⌜ (r ≡ at + 15 * e .count) × (now (out .exit) ≡ put (now (out .entry)) at (flat messageBytes (take (e .count) (e .places)))) × (length (flat messageBytes (take (e .count) (e .places))) ≡ 15 * e .count) ⌝ }
+{
+    let n = e.count as usize;
+    let mut i: usize = 0;
+    let mut to = at;
+    while i < n {
+        let m = e.places[i];
+        to = put_message(out, to, m);
+        i += 1;
+    }
+    to
+}
+
+pub fn put_entries(out: &mut [u8], at: usize, e: Archive) -> usize
+    requires { ⌜ (e .count ≤ 256) × (at + 15 * e .count ≤ length (now out)) ⌝ }
+    ensures { λ r. ⌜ (r ≡ at + 15 * e .count) × (now (out .exit) ≡ put (now (out .entry)) at (flat entryBytes (take (e .count) (e .places)))) × (length (flat entryBytes (take (e .count) (e .places))) ≡ 15 * e .count) ⌝ }
+{
+    let n = e.count as usize;
+    let mut i: usize = 0;
+    let mut to = at;
+    while i < n {
+        let m = e.places[i];
+        to = put_entry(out, to, m);
+        i += 1;
+    }
+    to
+}
+
+// A well-formed bench, into a buffer that is long enough.
+pub fn put_bench(out: &mut [u8], held: Held) -> usize
+    requires { ⌜ (heldOk held ≡ true) × (length (imageOf held) ≤ length (now out)) ⌝ }
+    ensures { λ r. ⌜ (r ≡ length (imageOf held)) × (now (out .exit) ≡ put (now (out .entry)) 0 (imageOf held)) ⌝ }
+{
+    let table = held.table;
+    let desk = held.desk;
+    let ether = desk.ether;
+    let archive = desk.archive;
+    let a = put_head(out, desk.purses, ether.count, archive.count);
+    let b = put_purses(out, a, table, desk.purses);
+    let c = put_messages(out, b, ether);
+    put_entries(out, c, archive)
+}
