@@ -35,7 +35,7 @@ returns-2 c =
     let counted = called .before .before in
     let held = counted .before .before .before .args .held in
     let claims : footWith held (counted .claims .result .claims) ≡ footOf held =
-        ap (λ (f : Figure). footWith held (f .claims)) (counted .claims .ensures) in
+    ap (λ (f : Figure). footWith held (f .claims)) (counted .claims .ensures) in
     filled (le-leb _ _ (counted .before .if1 .left)) (same-bytes claims (called .put-foot .ensures))
 
 pub foot-spec : {M : Type 1} → statement M
