@@ -98,9 +98,9 @@ few-cut l a h = omega arith
 -- which pieces fit, and what is left of one that does not
 module _ (h : Held) (k : ℕ) (l out : List ℕ) where
   pub not-listed : pieceFits k l out ≡ false → {r : Listed} → r ≡ record { held = h; events = 0; length = 0 }
-      → (r ≡ pieceOf h k l out) × (out ≡ pieceBuffer h k l out)
+      → ((r ≡ pieceOf h k l out) × (out ≡ pieceBuffer h k l out)) × ((r .events ≤ 512) × (r .length ≤ length out))
   unfolding pieceOf pieceBuffer
-  not-listed e {r} p = rw e (p, refl)
+  not-listed e {r} p = rw p (rw e (refl, refl), (omega arith, omega arith))
 
   pub too-long : 6144 < length l → pieceFits k l out ≡ false
   unfolding pieceFits

@@ -10,6 +10,7 @@ ghost use Rattle.listing.specs.Opening.{balancesAt, balanceBytes, openin
 // How many balance bytes follow a purse count: none behind a count that opening refuses.
 pub fn balance_bytes(count: u8) -> usize
     ensures { λ r. ⌜ r ≡ balanceBytes count ⌝ }
+    ensures { λ r. ⌜ r ≤ 128 ⌝ }
 {
     if count <= 32 { 4 * (count as usize) } else { 0 }
 }
@@ -33,6 +34,7 @@ fn balances(l: &[u8], count: usize) -> [u32; 32]
 // Bytes of any length and content.
 pub fn read_opening(input: &[u8]) -> Opening
     ensures { λ r. ⌜ r ≡ openingIn (now (input .entry)) ⌝ }
+    ensures { λ r. ⌜ r .count ≤ 32 ⌝ }
 {
     if input.len() < 1 {
         return Opening {

@@ -14,6 +14,7 @@ ghost use Rattle.listing.specs.Listing.{headerLine, openingLine, eventLi
 // The header line.
 pub fn header(out: &mut [u8]) -> usize
     ensures { λ r. ⌜ Filled (leb 6 (length (now (out .entry)))) headerLine (now (out .entry)) r (now (out .exit)) ⌝ }
+    ensures { λ r. ⌜ r ≤ length (now (out .exit)) ⌝ }
 {
     if out.len() < 6 {
         return 0;
@@ -24,6 +25,7 @@ pub fn header(out: &mut [u8]) -> usize
 // The line of an opening that was refused, by its number.
 pub fn refused(out: &mut [u8], answer: u8) -> usize
     ensures { λ r. ⌜ Filled (leb 29 (length (now (out .entry)))) (openingLine answer) (now (out .entry)) r (now (out .exit)) ⌝ }
+    ensures { λ r. ⌜ r ≤ length (now (out .exit)) ⌝ }
 {
     if out.len() < 29 {
         return 0;
@@ -45,6 +47,7 @@ fn put_event(out: &mut [u8], at: usize, event: u64, answer: u8) -> usize
 // The lines of a piece of answers, the first of them that of event `first`.
 pub fn events(out: &mut [u8], first: u64, answers: &[u8]) -> usize
     ensures { λ r. ⌜ Filled (linesFit first (now (answers .entry)) (now (out .entry))) (eventLines first (now (answers .entry))) (now (out .entry)) r (now (out .exit)) ⌝ }
+    ensures { λ r. ⌜ r ≤ length (now (out .exit)) ⌝ }
 {
     if out.len() / 42 < answers.len() {
         return 0;

@@ -36,6 +36,7 @@ fn answer_all(held: Held, input: &[u8], answers: &mut [u8]) -> Ran
 // Runs a piece of at most 512 events and puts their lines into the buffer, the first of them that of event `first`.
 pub fn piece(held: Held, first: u64, input: &[u8], out: &mut [u8]) -> Listed
     ensures { λ r. ⌜ (r ≡ pieceOf held first (now (input .entry)) (now (out .entry))) × (now (out .exit) ≡ pieceBuffer held first (now (input .entry)) (now (out .entry))) ⌝ }
+    ensures { λ r. ⌜ (r .events ≤ 512) × (r .length ≤ length (now (out .exit))) ⌝ }
 {
     if 6144 < input.len() {
         return Listed::none(held);

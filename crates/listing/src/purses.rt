@@ -41,6 +41,7 @@ fn put_purses(out: &mut [u8], table: [Purse; 32], count: usize) -> usize
 fn put_last(out: &mut [u8], at: usize, messages: u16, archive: u16, claims: u32) -> usize
     requires { ⌜ at + 87 ≤ length (now out) ⌝ }
     ensures { λ r. ⌜ Written (now (out .entry)) at (lastLine messages archive claims) r (now (out .exit)) ⌝ }
+    ensures { λ r. ⌜ r ≤ at + 87 ⌝ }
 {
     let to = put_named(out, at, b"messages", messages as u64);
     let to = put_named(out, to, b" archive", archive as u64);
@@ -58,6 +59,7 @@ fn shown(count: u8) -> usize
 fn put_foot(out: &mut [u8], held: Held, claims: u32) -> usize
     requires { ⌜ footRoom ≤ length (now out) ⌝ }
     ensures { λ r. ⌜ Written (now (out .entry)) 0 (footWith held claims) r (now (out .exit)) ⌝ }
+    ensures { λ r. ⌜ r ≤ footRoom ⌝ }
 {
     let table = held.table;
     let count = shown(held.desk.purses);
@@ -70,6 +72,7 @@ fn put_foot(out: &mut [u8], held: Held, claims: u32) -> usize
 // The purse lines and the last line. The claims figure is the bench's own.
 pub fn foot(out: &mut [u8], held: Held) -> usize
     ensures { λ r. ⌜ Filled (leb footRoom (length (now (out .entry)))) (footOf held) (now (out .entry)) r (now (out .exit)) ⌝ }
+    ensures { λ r. ⌜ r ≤ length (now (out .exit)) ⌝ }
 {
     if out.len() < 4096 {
         return 0;

@@ -11,11 +11,11 @@ mul-result c = search needs
 
 -- src/input.rt:28:1
 returns : tie.Need-returns
-returns c = simp (le-leb _ _ (c .if1 .taken))
+returns c = (simp (le-leb _ _ (c .if1 .taken)), search needs)
 
 -- src/input.rt:28:1
 returns-2 : tie.Need-returns-2
-returns-2 c = simp (lt-leb _ _ (c .if1 .left))
+returns-2 c = (simp (lt-leb _ _ (c .if1 .left)), search needs)
 
 pub balance-bytes-spec : {M : Type 1} → statement M
 balance-bytes-spec = tie.close (tie.spec mul-result returns returns-2)

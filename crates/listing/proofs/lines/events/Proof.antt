@@ -42,13 +42,13 @@ abbrev μ-loop : tie.MeasureT-loop
 returns : tie.Need-returns Inv-loop μ-loop
 returns c =
     let args = c .before .before .before .args in
-    not-filled _ _ (too-short (args .first) (args .answers .now) (args .out .now) (omega arith))
+    (not-filled _ _ (too-short (args .first) (args .answers .now) (args .out .now) (omega arith)), search needs)
 
 -- src/lines.rt:50:9
 returns-2 : tie.Need-returns-2 Inv-loop μ-loop
 returns-2 c =
     let args = c .before .before .before .before .args in
-    not-filled _ _ (too-late (args .first) (args .answers .now) (args .out .now) (omega arith) (c .if2 .taken))
+    (not-filled _ _ (too-late (args .first) (args .answers .now) (args .out .now) (omega arith) (c .if2 .taken)), search needs)
 
 -- src/lines.rt:55:5
 loop-holds : tie.Need-loop-holds Inv-loop μ-loop
@@ -103,9 +103,9 @@ returns-3 c =
     let args = at-loop .before .before .before .before .before .args in
     let answers = args .answers .now in
     let whole : take (at-loop .loop .i) answers ≡ answers = take-all (at-loop .loop .i) answers (omega arith) in
-    filled
+    (filled
     (fit (args .first) answers (args .out .now) (omega arith) (at-loop .before .if2 .left))
-    (same-bytes (ap (λ (l : List ℕ). eventLines (args .first) l) whole) (at-loop .loop .inv .3))
+    (same-bytes (ap (λ (l : List ℕ). eventLines (args .first) l) whole) (at-loop .loop .inv .3)), search needs)
 
 pub events-spec : {M : Type 1} → statement M
 events-spec =

@@ -9,7 +9,7 @@ use Rattle.listing.proofs.text.put_text.Reads as put-text-reads
 
 -- src/lines.rt:15:9
 returns : tie.Need-returns
-returns c = not-filled _ _ (lt-leb _ _ (c .if1 .taken))
+returns c = (not-filled _ _ (lt-leb _ _ (c .if1 .taken)), search needs)
 
 -- src/lines.rt:17:22
 slice-aggregate-put-text : tie.Need-slice-aggregate-put-text
@@ -27,7 +27,7 @@ same-length c = search needs
 returns-2 : tie.Need-returns-2
 returns-2 c =
     let called = c .before .before in
-    filled (le-leb _ _ (called .before .before .before .if1 .left)) (called .put-text .ensures)
+    (filled (le-leb _ _ (called .before .before .before .if1 .left)) (called .put-text .ensures), search needs)
 
 pub header-spec : {M : Type 1} → statement M
 header-spec =

@@ -11,7 +11,7 @@ use Rattle.listing.proofs.text.put_named.Reads as put-named-reads
 
 -- src/lines.rt:29:9
 returns : tie.Need-returns
-returns c = not-filled _ _ (lt-leb _ _ (c .if1 .taken))
+returns c = (not-filled _ _ (lt-leb _ _ (c .if1 .taken)), search needs)
 
 -- src/lines.rt:31:32
 slice-aggregate-put-named : tie.Need-slice-aggregate-put-named
@@ -34,7 +34,7 @@ returns-2 : tie.Need-returns-2
 unfolding openingLine
 returns-2 c =
     let called = c .before .before in
-    filled (le-leb _ _ (called .before .before .before .before .before .before .before .if1 .left)) (then (called .before .before .before .before .put-named .ensures .0) (one-byte (called .put-byte .ensures)))
+    (filled (le-leb _ _ (called .before .before .before .before .before .before .before .if1 .left)) (then (called .before .before .before .before .put-named .ensures .0) (one-byte (called .put-byte .ensures))), search needs)
 
 pub refused-spec : {M : Type 1} → statement M
 refused-spec =

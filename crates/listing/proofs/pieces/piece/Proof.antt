@@ -92,7 +92,7 @@ returns-4 c =
     let said : take (all .result .taken) (all .last .1 .1 .0) ≡ bs =
     ap (take (all .result .taken)) (all .ensures .0 .2) ∙ take-at bs _ (all .result .taken) n in
     let few : length (take (all .result .taken) (all .last .1 .1 .0)) ≤ 512 = rw said (omega (arith, n, all .ensures .1)) in
-    listed h (a .first) l (a .out .now) (ready .before .before .if1 .left) (ready .before .if2 .left) (ready .if3 .left) said few (called .events .ensures) (all .ensures .0 .0) (all .ensures .0 .1)
+    (listed h (a .first) l (a .out .now) (ready .before .before .if1 .left) (ready .before .if2 .left) (ready .if3 .left) said few (called .events .ensures .0) (all .ensures .0 .0) (all .ensures .0 .1), (search needs, search needs))
 
 pub piece-spec : {M : Type 1} → statement M
 piece-spec =

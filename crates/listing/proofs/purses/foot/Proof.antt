@@ -13,7 +13,7 @@ use Rattle.listing.proofs.purses.put_foot.Reads as put-foot-reads
 
 -- src/purses.rt:75:9
 returns : tie.Need-returns
-returns c = not-filled _ _ (lt-leb _ _ (c .if1 .taken))
+returns c = (not-filled _ _ (lt-leb _ _ (c .if1 .taken)), search needs)
 
 -- src/purses.rt:77:9
 claims-requires : tie.Need-claims-requires
@@ -36,7 +36,7 @@ returns-2 c =
     let held = counted .before .before .before .args .held in
     let claims : footWith held (counted .claims .result .claims) ≡ footOf held =
     ap (λ (f : Figure). footWith held (f .claims)) (counted .claims .ensures) in
-    filled (le-leb _ _ (counted .before .if1 .left)) (same-bytes claims (called .put-foot .ensures))
+    (filled (le-leb _ _ (counted .before .if1 .left)) (same-bytes claims (called .put-foot .ensures .0)), search needs)
 
 pub foot-spec : {M : Type 1} → statement M
 foot-spec = tie.close (tie.spec returns claims-requires put-foot-requires same-length returns-2)

@@ -46,7 +46,7 @@ returns c =
     let long : n ≡ 32 = simp length-map at (start .good .1 .0 .1 .1 .0 .1 .0 .1) in
     let lines = ap (λ (k : ℕ). numbered purseLine 0 (take k (held .table))) (counted .shown .ensures .0) in
     let all = ap (λ (l : List Purse). numbered purseLine 0 l) (take-least (held .desk .purses) 32 (held .table) (omega arith)) in
-    then (same-bytes (lines ∙ all) (purses .put-purses .ensures .0)) (called .put-last .ensures)
+    (then (same-bytes (lines ∙ all) (purses .put-purses .ensures .0)) (called .put-last .ensures .0), search needs)
 
 pub put-foot-spec : {M : Type 1} → statement M
 put-foot-spec =

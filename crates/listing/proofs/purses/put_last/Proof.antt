@@ -51,7 +51,7 @@ returns c =
     let messages = archive .before .before .before .before .before in
     let args = messages .before .before .before .before .args in
     let counts = then-two _ _ (field (args .archive)) (messages .put-named .ensures .0) (archive .put-named2 .ensures .0) in
-    then (then-two _ _ (field (args .claims)) counts (claims .put-named3 .ensures .0)) (one-byte (called .put-byte .ensures))
+    (then (then-two _ _ (field (args .claims)) counts (claims .put-named3 .ensures .0)) (one-byte (called .put-byte .ensures)), search needs)
 
 pub put-last-spec : {M : Type 1} → statement M
 put-last-spec =
