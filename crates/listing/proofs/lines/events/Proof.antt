@@ -102,10 +102,12 @@ returns-3 c =
     let at-loop = c .before in
     let args = at-loop .before .before .before .before .before .args in
     let answers = args .answers .now in
-    let whole : take (at-loop .loop .i) answers ≡ answers = take-all (at-loop .loop .i) answers (omega arith) in
-    (filled
-    (fit (args .first) answers (args .out .now) (omega arith) (at-loop .before .if2 .left))
-    (same-bytes (ap (λ (l : List ℕ). eventLines (args .first) l) whole) (at-loop .loop .inv .3)), search needs)
+    let whole : take (at-loop .loop .i) answers ≡ answers = take-all (at-loop .loop .i) answers (omega arith) in (
+      filled
+          (fit (args .first) answers (args .out .now) (omega arith) (at-loop .before .if2 .left))
+          (same-bytes (ap (λ (l : List ℕ). eventLines (args .first) l) whole) (at-loop .loop .inv .3)),
+      search needs,
+    )
 
 pub events-spec : {M : Type 1} → statement M
 events-spec =
