@@ -81,8 +81,7 @@ pub image-again : (g : Held) (l : List ℕ) → Bytes l → heldRead g l .answer
 unfolding imageOf benchIn
 image-again g l k e =
     let r = read-held g l e in
-    let q = reads g l (r .0) in
-    (
+    let q = reads g l (r .0) in (
       ap (λ (x : Held). benchBytes (seen x)) (r .1) ∙ ap benchBytes (seen-laid (listsIn l)) ∙ lists-again l k (q .head),
       ap heldOk (r .1) ∙ q .rules,
     )

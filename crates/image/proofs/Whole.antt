@@ -115,8 +115,7 @@ whole-coded p m a =
     (λ (y : Head × (List Purse × (List Message × List Entry))).
     record { head = y .0; lists = record { purses = y .1 .0; messages = y .1 .1 .0; archive = y .1 .1 .1 } })
     (λ x. refl) (λ y. refl)
-    (λ x s.
-    (
+    (λ x s. (
       tt,
       ((s .purses, s .logs), ((s .messages, any-all (x .lists .messages)), (s .archive, any-all (x .lists .archive)))),
     ))
@@ -240,8 +239,7 @@ pub in-places : (l : List ℕ) → benchIn l
     }
 unfolding benchIn listsIn
 in-places l =
-    rw
-    (
+    rw (
       length-many purseAt 136 (pursesIn l) l 10,
       length-many messageAt 15 (messagesIn l) l (10 + 136 * pursesIn l),
       length-many entryAt 15 (entriesIn l) l (10 + 136 * pursesIn l + 15 * messagesIn l),

@@ -1,5 +1,7 @@
 // The head of an image: mark, version, purse count, message count, archive count.
-use codec::numbers::{get_count, put_byte, put_count};
+use codec::numbers::get_count;
+use codec::numbers::put_byte;
+use codec::numbers::put_count;
 use purse::tested;
 ghost use mathlib.Core.Path.{_≡_};
 ghost use Prim.Native.Nat.{_≤_, _<_};

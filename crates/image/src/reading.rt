@@ -1,6 +1,8 @@
 // The table and the desk that bytes give: one loop for each kind of record.
 use codec::numbers::get_count;
-use codec::records::{get_entry, get_message, get_purse};
+use codec::records::get_entry;
+use codec::records::get_message;
+use codec::records::get_purse;
 use desk::Archive;
 use desk::Desk;
 use desk::Entry;

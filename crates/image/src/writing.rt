@@ -1,6 +1,8 @@
 // The table and the desk as bytes: one loop for each kind of record.
 use crate::head::put_head;
-use codec::records::{put_entry, put_message, put_purse};
+use codec::records::put_entry;
+use codec::records::put_message;
+use codec::records::put_purse;
 use desk::Archive;
 use desk::Desk;
 use desk::Ether;

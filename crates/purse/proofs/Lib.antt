@@ -8,3 +8,8 @@ pub mod Steps
 pub mod Keep
 pub mod Count
 pub mod Padded
+pub mod Refused
+pub mod Money
+pub mod Numbers
+pub mod Unique
+pub mod Edges

@@ -62,6 +62,20 @@ module _ {A : Type 0} where
       ∙ (sym (append-assoc (take i l) (drop (suc i) l) (r ++ (z ∷ [])))
       ∙ ap (λ (t : List A). without i l ++ t) (replicate-end (many - length l) z ∙ ap (λ (n : ℕ). replicate n z) (sym e)))))
 
+  -- a place is read as the list is, past its end too
+  pub read-anywhere : (many : ℕ) (z : A) (l : List A) (i : ℕ) → getD (padded many z l) i z ≡ getD l i z
+  read-anywhere many z l i = behind l (many - length l) i
+    where
+      zeros : (n i : ℕ) → getD (replicate n z) i z ≡ z
+      zeros zero i = refl
+      zeros (suc n) zero = refl
+      zeros (suc n) (suc i) = zeros n i
+
+      behind : (l : List A) (n i : ℕ) → getD (l ++ replicate n z) i z ≡ getD l i z
+      behind [] n i = zeros n i
+      behind (x ∷ l) n zero = refl
+      behind (x ∷ l) n (suc i) = behind l n i
+
   -- the code reads a used place of the list
   pub read-padded : (many : ℕ) (z : A) (l : List A) (i : ℕ) → i < length l → getD (padded many z l) i z ≡ getD l i z
-  read-padded many z l i h = List·getD-append l (replicate (many - length l) z) z i h
+  read-padded many z l i h = read-anywhere many z l i

@@ -1,15 +1,15 @@
 -- Laws of a list of tests: what it says that none applies, and that testing one by one, top to bottom, finds the first.
 -- Assumes nothing.
 use Prim.Native.Nat.{ℕ, _<_}
-use mathlib.Core.Path.{_≡_, refl, _∙_, ap}
+use mathlib.Core.Path.{_≡_, refl, _∙_, sym, ap}
 use mathlib.Core.Bool.{Bool, true, false, not, cond}
 use mathlib.Core.Logic.{⊎-elim}
-use mathlib.Core.List.{List, [], _∷_}
+use mathlib.Core.List.{List, [], _∷_, _++_}
 use lib.Dec.{eqb}
 use native.Mathlib.Omega.{arith}
 use borrow.Author.Tests.{eqb-false, ne-eqb, not-true}
 use Rattle.purse.specs.Lists.{all}
-use Rattle.purse.specs.Tests.{Test, first, after, walked}
+use Rattle.purse.specs.Tests.{Test, _⇒_, first, after, walked}
 use Rattle.purse.proofs.Bools.{and-l, and-r, which}
 
 -- one test of a ladder, passed
@@ -37,3 +37,16 @@ walks (t ∷ ts) e =
     rw a (walked-found (t .number) ts (eqb-false _ _ (not-true _ (and-l (not (eqb (t .number) 0)) (numbered ts) e)))))
     (λ (a : t .applies ≡ false). rw a (walks ts (and-r (not (eqb (t .number) 0)) (numbered ts) e)))
     (which (t .applies))
+
+-- one more test behind others
+pub first-more : (ts : List Test) (t : Bool) (k : ℕ) → numbered ts ≡ true → first (ts ++ ((t ⇒ k) ∷ [])) ≡ after (first ts) t k
+first-more [] t k e = refl
+first-more (s ∷ ts) t k e =
+    ⊎-elim
+    (λ (a : s .applies ≡ true).
+    rw a (sym (after-found (s .number) t k (eqb-false _ _ (not-true _ (and-l (not (eqb (s .number) 0)) (numbered ts) e))))))
+    (λ (a : s .applies ≡ false). rw a (first-more ts t k (and-r (not (eqb (s .number) 0)) (numbered ts) e)))
+    (which (s .applies))
+
+pub more : (ts : List Test) (t : Bool) (k : ℕ) {found n : ℕ} → numbered ts ≡ true → found ≡ first ts → n ≡ after found t k → n ≡ first (ts ++ ((t ⇒ k) ∷ []))
+more ts t k e f g = g ∙ ap (λ (m : ℕ). after m t k) f ∙ sym (first-more ts t k e)

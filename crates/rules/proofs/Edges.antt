@@ -4,10 +4,12 @@ use Prim.Native.Nat.{ℕ, zero, suc, _/_, _%_}
 use mathlib.Core.Path.{_≡_, refl}
 use mathlib.Core.List.{List, [], _∷_, _++_, map}
 use Rattle.purse.specs.declared.Details.{Details}
+use Rattle.purse.specs.declared.Message.{Message}
 use Rattle.purse.specs.Lists.{padded}
 use Rattle.purse.specs.Details.{zeroDetails, sameDetails, sameMessage, legal, named, asPayer, asPayee, entryOk, absent}
 use Rattle.purse.specs.Purse.{logPlaces, idleOk, busyOk, placeOk, logOk, wellFormed}
 use Rattle.purse.specs.Step.{startNumber, fromNumber, toNumber, expected, deliverNumber, abortNumber, collectNumber, startFrom, startTo, deliverTo, abortBy, collectBy}
+use Rattle.desk.specs.declared.Entry.{Entry}
 use Rattle.rules.specs.Bench.{Bench, called}
 use Rattle.rules.specs.Table.{countsOk, inTable, purseOk, messageOk, archiveOk, onceOk, clearOk, tableOk}
 use Rattle.rules.specs.Events.{decoded}
@@ -106,3 +108,54 @@ cases =
 pub edges : map (λ (c : Case). step (c .bench) (c .event) .answer) cases ≡ map (λ (c : Case). c .number) cases
 unfolding sameDetails legal named asPayer asPayee entryOk absent idleOk busyOk placeOk logOk wellFormed startNumber fromNumber toNumber expected deliverNumber abortNumber collectNumber startFrom startTo deliverTo abortBy collectBy sameMessage countsOk inTable purseOk messageOk archiveOk onceOk clearOk tableOk decoded acting step
 edges = refl
+
+-- the lines that document 01 has run and compared: here computed too, with an archive that is full
+abbrev requests : ℕ → List Message
+requests zero = []
+requests (suc n) = record { kind = 1; details = payment (suc n) 1 5 } ∷ requests n
+
+abbrev entries : ℕ → List Entry
+entries zero = []
+entries (suc n) = record { by = called 0; details = payment (suc n) 1 5 } ∷ entries n
+
+-- 256 messages and 256 archive entries stand, and purse 0 has logged one more
+abbrev crowd : Bench
+crowd =
+    record {
+      purses =
+          record {
+            balance = record { 0 = 0 };
+            next = record { 0 = 300 };
+            status = 0;
+            details = zeroDetails;
+            log = padded logPlaces zeroDetails (payment 257 1 5 ∷ []);
+            logged = 1;
+          }
+          ∷ record {
+            balance = record { 0 = 0 };
+            next = record { 0 = 2 };
+            status = 0;
+            details = zeroDetails;
+            log = padded logPlaces zeroDetails [];
+            logged = 0;
+          }
+          ∷ [];
+      messages = requests 256;
+      archive = entries 256;
+    }
+
+abbrev pub further : List Case
+further =
+    -- 256 messages, start-to
+    at crowd (to 1 0 5) 1
+    -- place equal to the message count
+    ∷ at arrived (delivery 1 3) 5
+    -- event of 11 bytes
+    ∷ at (pair 300 1 0) (1 ∷ 0 ∷ 1 ∷ 0 ∷ 0 ∷ 0 ∷ 0 ∷ 1 ∷ 0 ∷ 0 ∷ 1 ∷ []) 3
+    -- archive full
+    ∷ at crowd (event 6 0 0 0 0) 15
+    ∷ []
+
+pub further-edges : map (λ (c : Case). step (c .bench) (c .event) .answer) further ≡ map (λ (c : Case). c .number) further
+unfolding sameDetails legal named asPayer asPayee entryOk absent idleOk busyOk placeOk logOk wellFormed startNumber fromNumber toNumber expected deliverNumber abortNumber collectNumber startFrom startTo deliverTo abortBy collectBy sameMessage countsOk inTable purseOk messageOk archiveOk onceOk clearOk tableOk decoded acting step
+further-edges = refl

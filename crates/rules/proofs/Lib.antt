@@ -13,3 +13,6 @@ pub mod Answers
 pub mod Opened
 pub mod Stopped
 pub mod Safe
+pub mod Carried
+pub mod Worked
+pub mod Demands

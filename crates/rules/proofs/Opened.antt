@@ -75,9 +75,12 @@ opened-table bs e =
       clear = λ m h. absurd (omega arith);
     }
 
+pub opened-ok : (bs : List ℕ) → openingNumber bs ≡ 0 → tableOk (opened bs) ≡ true
+opened-ok bs e = table-is (opened bs) (opened-table bs e)
+
 -- from an opened bench no run leads to a table that is not well formed
 pub run-table : (bs : List ℕ) (ls : List (List ℕ)) → openingNumber bs ≡ 0 → tableOk (run (opened bs) ls) ≡ true
-run-table bs ls e = keep-run (opened bs) ls (table-is (opened bs) (opened-table bs e))
+run-table bs ls e = keep-run (opened bs) ls (opened-ok bs e)
 
 -- so an opened bench never answers 2
 pub opened-never-two : (bs : List ℕ) (ls : List (List ℕ)) (l : List ℕ) → openingNumber bs ≡ 0 → step (run (opened bs) ls) l .answer ≡ 2 → ⊥

@@ -1,4 +1,5 @@
--- A list in places, zero behind it: what the code's stores do to the list. For the bench's code, and for carrying a theorem on lists to the table and desk.
+-- The lists and their places: a bench laid out is read back, a well-formed table and desk are their lists laid out, and the step on places is
+-- the step on lists. For the bench's code, and for carrying a theorem on lists to the table and desk.
 -- Assumes nothing.
 use Prim.Native.Nat.{ℕ, zero, suc, _+_, _-_, _≤_, _<_}
 use mathlib.Core.Path.{_≡_, refl, _∙_, sym, ap}
@@ -26,7 +27,7 @@ use Rattle.rules.specs.Table.{tableOk}
 use Rattle.rules.specs.Steps.{acting, step}
 use Rattle.rules.specs.Events.{decoded}
 use Rattle.rules.specs.Laid.{laid, seen, isZeroPurse, isZeroMessage, isZeroEntry, placesOk, heldOk, heldStep}
-use Rattle.rules.proofs.Facts.{details-equal, message-equal, entry-equal}
+use Rattle.rules.proofs.Facts.{details-equal, message-equal, entry-equal, Table, is-table}
 
 module _ {A : Type 0} where
   -- places with zeros behind the first n are those n, in their places
@@ -91,7 +92,7 @@ zero-entry : isZeroEntry zeroEntry ≡ true
 unfolding isZeroEntry sameEntry sameDetails
 zero-entry = refl
 
--- a bench within the ceilings is read back from its places
+-- a bench is read back from its places
 pub seen-laid : (b : Bench) → seen (laid b) ≡ b
 seen-laid b =
     let p : take (length (b .purses)) (padded 32 zeroPurse (b .purses)) ≡ b .purses = taken-back 32 zeroPurse (b .purses) in
@@ -99,14 +100,21 @@ seen-laid b =
     let e : take (length (b .archive)) (padded 256 zeroEntry (b .archive)) ≡ b .archive = taken-back 256 zeroEntry (b .archive) in
     λ i. record { purses = p i; messages = m i; archive = e i }
 
-pub held-laid : (b : Bench) → length (b .purses) ≤ 32 → length (b .messages) ≤ 256 → length (b .archive) ≤ 256 → tableOk b ≡ true → heldOk (laid b) ≡ true
+-- lists that obey the rules obey them in their places
+pub held-laid : (b : Bench) → tableOk b ≡ true → heldOk (laid b) ≡ true
 unfolding heldOk
-held-laid b p m e w =
+held-laid b w =
+    let t : Table b = is-table b w in
     and-i
     (and-i
-    (and-i (places-laid isZeroPurse zeroPurse zero-purse 32 (b .purses) p) (places-laid isZeroMessage zeroMessage zero-message 256 (b .messages) m))
-    (places-laid isZeroEntry zeroEntry zero-entry 256 (b .archive) e))
+    (and-i (places-laid isZeroPurse zeroPurse zero-purse 32 (b .purses) (t .few)) (places-laid isZeroMessage zeroMessage zero-message 256 (b .messages) (t .few-messages)))
+    (places-laid isZeroEntry zeroEntry zero-entry 256 (b .archive) (t .few-entries)))
     (ap tableOk (seen-laid b) ∙ w)
+
+-- the lists of a well-formed table and desk obey the rules
+pub seen-ok : (h : Held) → heldOk h ≡ true → tableOk (seen h) ≡ true
+unfolding heldOk
+seen-ok h w = and-r (placesOk isZeroPurse 32 (h .desk .purses) (h .table) && placesOk isZeroMessage 256 (h .desk .ether .count) (h .desk .ether .places) && placesOk isZeroEntry 256 (h .desk .archive .count) (h .desk .archive .places)) (tableOk (seen h)) w
 
 -- a well-formed table and desk are their lists, laid out
 pub laid-seen : (h : Held) → heldOk h ≡ true → laid (seen h) ≡ h
@@ -138,9 +146,9 @@ laid-seen h w =
         let small : n ≤ many = leb-true _ _ (and-r (eqb (length l) many) (leb n many) h1) in
         length-take-le n l (omega arith)
 
--- the code's step on laid lists is the step on the lists
-pub step-laid : (b : Bench) (l : List ℕ) → length (b .purses) ≤ 32 → length (b .messages) ≤ 256 → length (b .archive) ≤ 256 → tableOk b ≡ true → (heldStep (laid b) l .answer ≡ step b l .answer) × (heldStep (laid b) l .held ≡ laid (step b l .bench))
+-- the step on laid lists is the step on the lists
+pub step-laid : (b : Bench) (l : List ℕ) → tableOk b ≡ true → heldStep (laid b) l ≡ record { answer = step b l .answer; held = laid (step b l .bench) }
 unfolding heldStep step
-step-laid b l p m e w =
-    rw (held-laid b p m e w, w)
-    (ap (λ (c : Bench). acting c (decoded l) .answer) (seen-laid b), ap (λ (c : Bench). laid (acting c (decoded l) .bench)) (seen-laid b))
+step-laid b l w =
+    rw (held-laid b w, w)
+    (λ i. record { answer = acting (seen-laid b i) (decoded l) .answer; held = laid (acting (seen-laid b i) (decoded l) .bench) })

@@ -14,19 +14,19 @@ use borrow.Author.Tests.{ltb-true, ltb-false, eqb-true, ne-eqb, lt-ltb}
 use Rattle.purse.specs.declared.Details.{Details}
 use Rattle.purse.specs.declared.Purse.{Purse}
 use Rattle.purse.specs.Details.{sameDetails}
-use Rattle.purse.specs.Lists.{all, among, keep, total, sumTo}
+use Rattle.purse.specs.Lists.{all, among, distinct, keep, total, sumTo}
 use Rattle.purse.proofs.Bools.{which}
-use Rattle.purse.proofs.Count.{bit, times-append, times-keep, among-times, apart-times, total-le, total-eq, total-append, all-is, sum-same, sum-add, sum-shares}
+use Rattle.purse.proofs.Count.{bit, times-append, times-keep, times-among, among-times, apart-times, distinct-is, total-le, total-eq, total-append, all-is, sum-same, sum-add, sum-shares}
 use Rattle.rules.specs.Bench.{Bench, purseAt, kept, archivedBy, loggedBy, isAt, balanceAt}
 use Rattle.rules.specs.Table.{tableOk}
 use Rattle.rules.specs.Steps.{step}
-use Rattle.rules.specs.Run.{opened, openedAt, openingNumber, run}
+use Rattle.rules.specs.Run.{opened, openedAt, openingNumber, run, answers}
 use Rattle.rules.specs.Paid.{amountOf, paid, arrived, matchedWith, matched, abortOf, paidOut, takenIn}
 use Rattle.rules.proofs.Facts.{details-equal, details-same, countD, table-is}
-use Rattle.rules.proofs.Opened.{opened-table}
+use Rattle.rules.proofs.Opened.{opened-ok}
 use Rattle.rules.proofs.History.{epr, epa, epv, payerLog, payeeLog, History, history-run}
 use Rattle.rules.proofs.Kept.{keep-run}
-use Rattle.rules.proofs.Stopped.{run-length, aborts-idle, beyond}
+use Rattle.rules.proofs.Stopped.{run-length, aborts-idle, aborts-done, beyond}
 
 -- an opened bench has no history
 quiet-purse : (bs : List ℕ) (k : ℕ) → (purseAt (opened bs) k .status ≡ 0) × (purseAt (opened bs) k .logged ≡ 0)
@@ -109,14 +109,11 @@ module _ (opening : ℕ → ℕ) (b : Bench) (P A : List Details) (h : History o
 
 -- of every bench opened by the rules, after every list of events
 module _ (bs : List ℕ) (es : List (List ℕ)) (ok : openingNumber bs ≡ 0) where
-  opened-ok : tableOk (opened bs) ≡ true
-  opened-ok = table-is (opened bs) (opened-table bs ok)
-
   the-history : History (balanceAt (opened bs)) (run (opened bs) es) (paid (opened bs) es) (arrived (opened bs) es)
-  the-history = history-run (balanceAt (opened bs)) (opened bs) [] [] es opened-ok (opened-history bs)
+  the-history = history-run (balanceAt (opened bs)) (opened bs) [] [] es (opened-ok bs ok) (opened-history bs)
 
   the-length : length (run (opened bs) es .purses) ≡ length bs
-  the-length = run-length (opened bs) es opened-ok ∙ length-map bs openedAt
+  the-length = run-length (opened bs) es (opened-ok bs ok) ∙ length-map bs openedAt
 
   -- the balances, and what is paid and has not arrived, are the opening sum
   pub sum-kept : sumTo (length bs) (balanceAt (run (opened bs) es)) + total amountOf (paid (opened bs) es) ≡ sumTo (length bs) (balanceAt (opened bs)) + total amountOf (arrived (opened bs) es)
@@ -126,9 +123,18 @@ module _ (bs : List ℕ) (es : List (List ℕ)) (ok : openingNumber bs ≡ 0) wh
   pub sum-safe : sumTo (length bs) (balanceAt (run (opened bs) es)) ≤ sumTo (length bs) (balanceAt (opened bs))
   sum-safe = omega (arith, sum-kept, arrived-le (balanceAt (opened bs)) (run (opened bs) es) (paid (opened bs) es) (arrived (opened bs) es) the-history)
 
-  -- nothing arrives that was not paid, and nothing is paid, or arrives, twice
-  pub once-safe : (d : Details) → (countD d (arrived (opened bs) es) ≤ countD d (paid (opened bs) es)) × (countD d (paid (opened bs) es) ≤ 1)
-  once-safe d = (the-history .counts d .within, omega (arith, the-history .counts d .unpaid))
+  -- nothing arrives that was not paid
+  pub arrived-paid : (d : Details) → among sameDetails d (arrived (opened bs) es) ≡ true → among sameDetails d (paid (opened bs) es) ≡ true
+  arrived-paid d h =
+      times-among sameDetails d (paid (opened bs) es)
+      (omega (arith, among-times sameDetails d (arrived (opened bs) es) h, the-history .counts d .within))
+
+  -- nothing is paid twice, nothing arrives twice
+  pub paid-once : distinct sameDetails (paid (opened bs) es) ≡ true
+  paid-once = distinct-is sameDetails details-equal details-same (paid (opened bs) es) (λ (d : Details). omega (arith, the-history .counts d .unpaid))
+
+  pub arrived-once : distinct sameDetails (arrived (opened bs) es) ≡ true
+  arrived-once = distinct-is sameDetails details-equal details-same (arrived (opened bs) es) (λ (d : Details). omega (arith, the-history .counts d .due))
 
   -- every purse idle: each purse's balance
   pub idle-safe : ((k : ℕ) → k < length bs → purseAt (run (opened bs) es) k .status ≡ 0) → (p : ℕ) → p < length bs → balanceAt (run (opened bs) es) p + total amountOf (matched (run (opened bs) es) p) + paidOut p (arrived (opened bs) es) ≡ balanceAt (opened bs) p + takenIn p (arrived (opened bs) es)
@@ -151,5 +157,11 @@ stopped-safe bs es ps ok every p l =
     idle-safe bs (es ++ map abortOf ps) ok
     (λ (k : ℕ) (j : k < length bs).
     rw (run-append (opened bs) es (map abortOf ps))
-    (aborts-idle (run (opened bs) es) ps (keep-run (opened bs) es (opened-ok bs es ok)) k (omega (arith, the-length bs es ok)) (inl (every k j))))
+    (aborts-idle (run (opened bs) es) ps (keep-run (opened bs) es (opened-ok bs ok)) k (omega (arith, the-length bs es ok)) (inl (every k j))))
     p l
+
+-- each of those aborts is answered 0
+pub stops-done : (bs : List ℕ) (es : List (List ℕ)) (ps : List ℕ) → openingNumber bs ≡ 0 → all (λ (p : ℕ). ltb p (length bs)) ps ≡ true → answers (run (opened bs) es) (map abortOf ps) ≡ map (λ (p : ℕ). 0) ps
+stops-done bs es ps ok h =
+    aborts-done (run (opened bs) es) ps (keep-run (opened bs) es (opened-ok bs ok))
+    (ap (λ (n : ℕ). all (λ (p : ℕ). ltb p n) ps) (the-length bs es ok) ∙ h)

@@ -12,14 +12,14 @@ use borrow.Author.Tests.{ltb-true, ltb-false, eqb-true, lt-leb, le-leb, le-ltb}
 use Rattle.purse.specs.declared.Details.{Details}
 use Rattle.purse.specs.declared.Purse.{Purse}
 use Rattle.purse.specs.Step.{abortNumber, abortBy, aborted, stopped, taken}
-use Rattle.purse.specs.Lists.{among}
+use Rattle.purse.specs.Lists.{all, among}
 use Rattle.purse.specs.Purse.{zeroPurse}
-use Rattle.purse.proofs.Bools.{either, which}
+use Rattle.purse.proofs.Bools.{and-l, and-r, either, which}
 use Rattle.rules.specs.Bench.{Bench, called, purseAt}
 use Rattle.rules.specs.Table.{tableOk}
-use Rattle.rules.specs.Steps.{withPurse, acting, step}
+use Rattle.rules.specs.Steps.{Answer, withPurse, acting, step}
 use Rattle.rules.specs.Events.{decoded}
-use Rattle.rules.specs.Run.{run}
+use Rattle.rules.specs.Run.{run, answers}
 use Rattle.rules.specs.Paid.{abortOf}
 use Rattle.rules.proofs.Facts.{Table, is-table}
 use Rattle.rules.proofs.Puts.{put-cases}
@@ -95,6 +95,18 @@ aborts-idle b (p ∷ ps) w k hk h =
     (either (eqb k p) (among eqb k ps) e))
     (λ (e : purseAt b k .status ≡ 0). inr (abort-idle b p w k (inr e) hk))
     h)
+
+-- each abort at a purse of the table is answered 0
+pub aborts-done : (b : Bench) (ps : List ℕ) → tableOk b ≡ true → all (λ (p : ℕ). ltb p (length (b .purses))) ps ≡ true → answers b (map abortOf ps) ≡ map (λ (p : ℕ). 0) ps
+aborts-done b [] w h = refl
+aborts-done b (p ∷ ps) w h =
+    let hp : p < length (b .purses) = ltb-true _ _ (and-l (ltb p (length (b .purses))) (all (λ (p : ℕ). ltb p (length (b .purses))) ps) h) in
+    let e : step b (abortOf p) .answer ≡ 0 = ap (λ (a : Answer). a .answer) (abort-step b p w hp) in
+    let r : answers (step b (abortOf p) .bench) (map abortOf ps) ≡ map (λ (p : ℕ). 0) ps =
+    aborts-done (step b (abortOf p) .bench) ps (keep-step b (abortOf p) w)
+    (rw (step-length b (abortOf p) w) (and-r (ltb p (length (b .purses))) (all (λ (p : ℕ). ltb p (length (b .purses))) ps) h))
+    in
+    λ i. e i ∷ r i
 
 -- past the table there is no busy purse
 pub beyond : (b : Bench) (k : ℕ) → length (b .purses) ≤ k → purseAt b k .status ≡ 0

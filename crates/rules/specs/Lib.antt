@@ -5,3 +5,4 @@ pub mod Steps
 pub mod Run
 pub mod Paid
 pub mod Laid
+pub mod HeldPaid

@@ -1,1 +1,6 @@
 pub mod Walks
+pub mod Same
+pub mod Beside
+pub mod Once
+pub mod Held
+pub mod Record

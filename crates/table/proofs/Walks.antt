@@ -3,7 +3,7 @@
 -- Assumes nothing.
 use Prim.Native.Nat.{ℕ, zero, suc, _+_, _≤_, _<_}
 use mathlib.Core.Path.{_≡_, refl, _∙_, sym, ap}
-use mathlib.Core.Bool.{Bool, true, false, _&&_, _||_, not, cond}
+use mathlib.Core.Bool.{Bool, true, false, _&&_, _||_, not}
 use mathlib.Core.Logic.{⊎-elim}
 use mathlib.Core.List.{List, [], _∷_, _++_}
 use lib.ListN.{length, take, drop, getD, drop-of-length-le}
@@ -13,6 +13,7 @@ use native.Mathlib.Numerals.{add-one}
 use native.Mathlib.Omega.{arith}
 use borrow.Author.Tests.{ltb-true, ltb-false}
 use Rattle.purse.specs.Lists.{all, among, distinct}
+use Rattle.table.specs.Records.{atMost}
 use Rattle.purse.proofs.Bools.{and-l, and-r, and-i, which}
 
 pub and-assoc : (a b c : Bool) → ((a && b) && c) ≡ (a && (b && c))
@@ -37,6 +38,14 @@ last-apart true b c d = refl
 last-apart false b true true = refl
 last-apart false b true false = refl
 last-apart false b false d = refl
+
+-- a count that is held to its places
+pub bounded : (n many : ℕ) {count : ℕ} → count ≡ atMost n many → count ≤ many
+bounded n many {count} e =
+    ⊎-elim
+    (λ (w : ltb many n ≡ true). let k : count ≡ many = e ∙ rw w in omega arith)
+    (λ (w : ltb many n ≡ false). let k : count ≡ n = e ∙ rw w in omega (arith, ltb-false many n w))
+    (which (ltb many n))
 
 module _ {A : Type 0} where
   pub all-append : (f : A → Bool) (s t : List A) → all f (s ++ t) ≡ (all f s && all f t)
@@ -68,14 +77,40 @@ module _ {A : Type 0} where
   pub distinct-next : (same : A → A → Bool) → ((x y : A) → same x y ≡ same y x) → (l : List A) (i : ℕ) (z : A) → i < length l → distinct same (take (i + 1) l) ≡ (distinct same (take i l) && not (among same (getD l i z) (take i l)))
   distinct-next same turn l i z h = rw (add-one i, take-suc l i z h) (distinct-last same turn (take i l) (getD l i z))
 
+  -- one turn of a loop that asks each member, looks for one, or holds each against those before it
+  pub more-all : (f : A → Bool) (l : List A) (i : ℕ) (z : A) {ok r : Bool} → i < length l → ok ≡ all f (take i l) → r ≡ f (getD l i z) → (ok && r) ≡ all f (take (i + 1) l)
+  more-all f l i z h e k = rw (e, k) (sym (all-next f l i z h))
+
+  pub more-any : (same : A → A → Bool) (x : A) (l : List A) (i : ℕ) (z : A) {hit r : Bool} → i < length l → hit ≡ among same x (take i l) → r ≡ same x (getD l i z) → (hit || r) ≡ among same x (take (i + 1) l)
+  more-any same x l i z h e k = rw (e, k) (sym (among-next same x l i z h))
+
+  pub more-apart : (same : A → A → Bool) → ((x y : A) → same x y ≡ same y x) → (l : List A) (i : ℕ) (z : A) {ok hit : Bool} → i < length l → ok ≡ distinct same (take i l) → hit ≡ among same (getD l i z) (take i l) → (ok && not hit) ≡ distinct same (take (i + 1) l)
+  more-apart same turn l i z h e k = rw (e, k) (sym (distinct-next same turn l i z h))
+
+  -- a loop's last turn: as many places as the count says
+  pub stops : {X : Type 0} (g : List A → X) (l : List A) (i j : ℕ) {r : X} → i ≡ j → r ≡ g (take i l) → r ≡ g (take j l)
+  stops g l i j e k = rw e at k
+
+  pub take-most : (n many : ℕ) (l : List A) → length l ≡ many → take (atMost n many) l ≡ take n l
+  take-most n many l e =
+      ⊎-elim
+      (λ (w : ltb many n ≡ true).
+      let h : many < n = ltb-true many n w in
+      rw w (take-all many l (omega arith) ∙ sym (take-all n l (omega arith))))
+      (λ (w : ltb many n ≡ false). rw w)
+      (which (ltb many n))
+
+  pub walked-all : {X : Type 0} (g : List A → X) (l : List A) (n many i : ℕ) {count : ℕ} {r : X} → length l ≡ many → count ≡ atMost n many → i ≡ count → r ≡ g (take i l) → r ≡ g (take n l)
+  walked-all g l n many i h c e k = stops g l i (atMost n many) (e ∙ c) k ∙ ap g (take-most n many l h)
+
   -- one place less in the rest of the list: ok is what the places before i say
-  pub rest-more : (f : A → Bool) (l : List A) (i : ℕ) (z : A) (ok : Bool) {ok′ whole : Bool} → i < length l → (ok && all f (drop i l)) ≡ whole → ok′ ≡ (ok && f (getD l i z)) → (ok′ && all f (drop (i + 1) l)) ≡ whole
-  rest-more f l i z ok {ok′} {whole} h e k =
+  pub rest-more : (f : A → Bool) (l : List A) (i : ℕ) (z : A) (ok : Bool) {r whole : Bool} → i < length l → (ok && all f (drop i l)) ≡ whole → r ≡ f (getD l i z) → ((ok && r) && all f (drop (i + 1) l)) ≡ whole
+  rest-more f l i z ok h e k =
       let d : drop i l ≡ getD l i z ∷ drop (i + 1) l = rw (add-one i) (drop-cons l i z h) in
       rw k (and-assoc ok (f (getD l i z)) (all f (drop (i + 1) l)) ∙ rw d at e)
 
   pub rest-end : (f : A → Bool) (l : List A) (i : ℕ) (ok : Bool) {whole : Bool} → length l ≤ i → (ok && all f (drop i l)) ≡ whole → ok ≡ whole
-  rest-end f l i ok {whole} h e = sym (and-true ok) ∙ rw (drop-of-length-le l h) at e
+  rest-end f l i ok h e = sym (and-true ok) ∙ rw (drop-of-length-le l h) at e
 
   -- a test at each place
   pub all-at : (f : A → Bool) (l : List A) (z : A) (j : ℕ) → all f l ≡ true → j < length l → f (getD l j z) ≡ true
@@ -92,6 +127,11 @@ module _ {A : Type 0} where
   pub all-each : (f g : A → Bool) (l : List A) → ((x : A) → f x ≡ true → g x ≡ true) → all f l ≡ true → all g l ≡ true
   all-each f g [] h e = refl
   all-each f g (x ∷ l) h e = and-i (h x (and-l (f x) (all f l) e)) (all-each f g l h (and-r (f x) (all f l) e))
+
+  pub all-both : (f g k : A → Bool) (l : List A) → ((x : A) → f x ≡ true → g x ≡ true → k x ≡ true) → all f l ≡ true → all g l ≡ true → all k l ≡ true
+  all-both f g k [] h d e = refl
+  all-both f g k (x ∷ l) h d e =
+      and-i (h x (and-l (f x) (all f l) d) (and-l (g x) (all g l) e)) (all-both f g k l h (and-r (f x) (all f l) d) (and-r (g x) (all g l) e))
 
   -- at a place of the list it is no matter what stands past its end
   pub at-any : (l : List A) (i : ℕ) (y z : A) → i < length l → getD l i y ≡ getD l i z

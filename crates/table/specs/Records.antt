@@ -1,8 +1,8 @@
 -- The rules of a bench's table and desk, record by record: what the desk alone must be, and what each record must be beside it. A
 -- table and desk obey document 01's rules (`heldOk`) just where these do: `held-by-records` in proofs/ says so.
-use Prim.Native.Nat.{ℕ, suc}
-use mathlib.Core.Bool.{Bool, true, _&&_, _||_, not, cond}
-use mathlib.Core.List.{List, [], _∷_, _++_}
+use Prim.Native.Nat.{ℕ}
+use mathlib.Core.Bool.{Bool, _&&_, _||_, not, cond}
+use mathlib.Core.List.{List, _++_}
 use lib.ListN.{length, take, getD}
 use lib.Dec.{ltb, leb, eqb}
 use Rattle.purse.specs.declared.Details.{Details}
@@ -26,6 +26,10 @@ standing e = take (e .count) (e .places)
 
 abbrev pub collected : Archive → List Entry
 collected a = take (a .count) (a .places)
+
+-- a count, or all the places where it is larger
+abbrev pub atMost : ℕ → ℕ → ℕ
+atMost n many = cond (ltb many n) many n
 
 -- b, where a holds
 abbrev pub when : Bool → Bool → Bool
@@ -102,11 +106,6 @@ purseBeside d i p =
 -- record i beside the desk: "records past the purse count are all zero"
 unfoldable pub recordOk : Desk → ℕ → Purse → Bool
 recordOk d i p = cond (ltb i (d .purses)) (purseBeside d i p) (isZeroPurse p)
-
--- the records one after the other, the first of them record i
-abbrev pub recordsOk : Desk → ℕ → List Purse → Bool
-recordsOk d i [] = true
-recordsOk d i (p ∷ ps) = recordOk d i p && recordsOk d (suc i) ps
 
 -- "lent table of 32 records", the desk, and each record
 unfoldable pub byRecords : Held → Bool

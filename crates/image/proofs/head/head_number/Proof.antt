@@ -74,8 +74,7 @@ returns-2 c =
     let long = version .before .before .before .before in
     let l = long .before .before .args .s .now in
     c .tested4 .ensures
-    ∙ rw
-    (
+    ∙ rw (
       c .before .tested3 .ensures,
       c .before .before .tested2 .ensures,
       n1 .tested .ensures,

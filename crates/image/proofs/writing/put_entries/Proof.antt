@@ -57,11 +57,10 @@ loop-again c =
     let start = at-loop .before .before in
     let args = start .args in
     let xs = args .t3 .places in
-    let long : length xs ≡ 256 = simp length-map at (start .good .1 .1 .0 .1 .1 .0 .1 .0 .1) in
-    (
+    let long : length xs ≡ 256 = simp length-map at (start .good .1 .1 .0 .1 .1 .0 .1 .0 .1) in (
       omega arith,
       wrote-more entryBytes 15 (args .out .now) (args .at) xs (at-loop .loop .i) zeroEntry (omega arith) (at-loop .loop .inv .1)
-      (called .put-entry .ensures .2) (called .put-entry .ensures .1) (called .put-entry .ensures .0),
+          (called .put-entry .ensures .2) (called .put-entry .ensures .1) (called .put-entry .ensures .0),
     )
 
 -- src/writing.rt:48:1

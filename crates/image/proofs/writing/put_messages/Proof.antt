@@ -57,11 +57,10 @@ loop-again c =
     let start = at-loop .before .before in
     let args = start .args in
     let xs = args .t3 .places in
-    let long : length xs ≡ 256 = simp length-map at (start .good .1 .1 .0 .1 .1 .0 .1 .0 .1) in
-    (
+    let long : length xs ≡ 256 = simp length-map at (start .good .1 .1 .0 .1 .1 .0 .1 .0 .1) in (
       omega arith,
       wrote-more messageBytes 15 (args .out .now) (args .at) xs (at-loop .loop .i) zeroMessage (omega arith) (at-loop .loop .inv .1)
-      (called .put-message .ensures .2) (called .put-message .ensures .1) (called .put-message .ensures .0),
+          (called .put-message .ensures .2) (called .put-message .ensures .1) (called .put-message .ensures .0),
     )
 
 -- src/writing.rt:33:1

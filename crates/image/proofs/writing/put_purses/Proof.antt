@@ -53,11 +53,10 @@ loop-again c =
     let start = at-loop .before .before in
     let args = start .args in
     let xs = args .t3 in
-    let long : length xs ≡ 32 = search needs in
-    (
+    let long : length xs ≡ 32 = search needs in (
       omega arith,
       wrote-more purseBytes 136 (args .out .now) (args .at) xs (at-loop .loop .i) pastPurse (omega arith) (at-loop .loop .inv .1)
-      (called .put-purse .ensures .2) (called .put-purse .ensures .1) (called .put-purse .ensures .0),
+          (called .put-purse .ensures .2) (called .put-purse .ensures .1) (called .put-purse .ensures .0),
     )
 
 -- src/writing.rt:18:1

@@ -1,0 +1,270 @@
+-- The bench's step is `actOn` at the one record that the event names, put back at its place.
+-- Why: on lists laid out in their places a read, a store, a message more or less and an entry more are those of the lists (the laws of
+-- Padded), and each kind's tests are the same numbers; a refusal puts back the record that was read.
+-- Assumes nothing.
+use Prim.Native.Nat.{ℕ, suc, _+_, _-_, _<_, _≤_}
+use mathlib.Core.Path.{_≡_, refl, _∙_, sym, ap}
+use mathlib.Core.Bool.{Bool, true, false, _&&_, cond}
+use mathlib.Core.Logic.{⊎-elim}
+use mathlib.Core.List.{List, [], _∷_, _++_}
+use lib.ListN.{length, getD, take, drop, set, length-set, length-append, length-drop}
+use lib.Seq.{set-getD, length-take-le}
+use lib.Dec.{ltb, leb, eqb}
+use native.Mathlib.Omega.{arith}
+use borrow.Author.Tests.{leb-true, leb-false, ltb-true, ltb-false, le-leb, lt-ltb, eqb-true}
+use Rattle.purse.specs.declared.Name.{Name}
+use Rattle.purse.specs.declared.Message.{Message}
+use Rattle.purse.specs.declared.Purse.{Purse}
+use Rattle.purse.specs.declared.CardAnswer.{CardAnswer}
+use Rattle.purse.specs.declared.CardEvent.{CardEvent}
+use Rattle.purse.specs.declared.CardEvent.the-variants as card
+use Rattle.purse.specs.Lists.{padded, without}
+use Rattle.purse.specs.Tests.{first}
+use Rattle.purse.specs.Details.{zeroMessage}
+use Rattle.purse.specs.Purse.{zeroPurse}
+use Rattle.purse.specs.Card.{stepBy}
+use Rattle.purse.proofs.Bools.{and-r, which}
+use Rattle.purse.proofs.Padded.{set-padded, push-padded, pull-padded, read-padded}
+use Rattle.desk.specs.declared.Entry.{Entry}
+use Rattle.desk.specs.declared.Desk.{Desk}
+use Rattle.desk.specs.declared.Held.{Held}
+use Rattle.desk.specs.declared.Answered.{Answered}
+use Rattle.desk.specs.Desk.{zeroEntry, added, takenOut, stored}
+use Rattle.rules.specs.declared.Event.{Event}
+use Rattle.rules.specs.declared.Event.the-variants.{Malformed, StartFrom, StartTo, Deliver, Abort, Lose, Collect}
+use Rattle.rules.specs.Bench.{Bench, called, purseAt, messageAt}
+use Rattle.rules.specs.Table.{tableOk}
+use Rattle.rules.specs.Events.{decoded}
+use Rattle.rules.specs.Steps.{Answer, refused, withPurse, withMessages, withArchive, sending, carried, archiving, told, starting, delivering, aborting, losing, collecting, acting}
+use Rattle.rules.specs.Laid.{laid, seen, placesOk, isZeroPurse, isZeroMessage, isZeroEntry, heldOk, heldStep}
+use Rattle.rules.proofs.Places.{laid-seen}
+use Rattle.rules.proofs.Facts.{Table, is-table}
+use Rattle.bench.specs.declared.Acted.{Acted}
+use Rattle.bench.specs.Acts.{placeIn, placeOf, refusedOn, startTests, deliverTests, purseTests, loseTests, sentOn, carriedOn, toldOn, lostOn, archivedOn, collectedOn, actOn, putBack, byRecord}
+
+-- an answer on the lists, laid out
+abbrev shown : Answer → Answered
+shown a = record { answer = a .answer; held = laid (a .bench) }
+
+-- what is refused puts back the record that was read
+stays : (h : Held) (n i : ℕ) → record { answer = n; held = h } ≡ putBack h i (refusedOn n (getD (h .table) i zeroPurse) (h .desk))
+stays h n i =
+    ap (λ (t : List Purse). record { answer = n; held = record { table = t; desk = h .desk } })
+    (sym (set-getD (h .table) i zeroPurse))
+
+-- a name in the table is its own place
+place-in : (b : Bench) (t : Table b) (own : Name) → own .0 < length (b .purses) → placeIn own ≡ own .0
+place-in b t own h = rw (le-leb (own .0) 31 (omega (arith, t .few)))
+
+module _ (b : Bench) where
+  abbrev desk : Desk
+  desk = laid b .desk
+
+  -- one purse replaced
+  put-laid : (p : ℕ) (q : Purse) → p < length (b .purses) → laid (withPurse b p q) ≡ record { table = set (laid b .table) p q; desk = desk }
+  put-laid p q h =
+      let t : set (padded 32 zeroPurse (b .purses)) p q ≡ padded 32 zeroPurse (set (b .purses) p q) = set-padded 32 zeroPurse (b .purses) p q h in
+      let n : length (set (b .purses) p q) ≡ length (b .purses) = length-set (b .purses) p q in
+      λ i. record { table = sym t i; desk = record { purses = n i; ether = desk .ether; archive = desk .archive } }
+
+  -- one purse replaced and its message sent
+  sent-laid : (p : ℕ) (q : Purse) (m : Message) → p < length (b .purses) → shown (sending (withPurse b p q) m) ≡ putBack (laid b) p (sentOn q desk m)
+  unfolding sentOn added
+  sent-laid p q m h =
+      ⊎-elim
+      (λ (k : eqb (m .kind) 0 ≡ true). rw k (ap (λ (x : Held). record { answer = 0; held = x }) (put-laid p q h)))
+      (λ (k : eqb (m .kind) 0 ≡ false).
+      rw k
+      (⊎-elim
+      (λ (r : ltb (length (b .messages)) 256 ≡ true).
+      let t : set (padded 32 zeroPurse (b .purses)) p q ≡ padded 32 zeroPurse (set (b .purses) p q) = set-padded 32 zeroPurse (b .purses) p q h in
+      let n : length (set (b .purses) p q) ≡ length (b .purses) = length-set (b .purses) p q in
+      let s : set (padded 256 zeroMessage (b .messages)) (length (b .messages)) m ≡ padded 256 zeroMessage (b .messages ++ (m ∷ [])) = push-padded 256 zeroMessage (b .messages) m (ltb-true _ _ r) in
+      let c : length (b .messages ++ (m ∷ [])) ≡ length (b .messages) + 1 = length-append (b .messages) (m ∷ []) in
+      rw r
+      (λ i. record {
+        answer = 0;
+        held =
+            record {
+              table = sym t i;
+              desk = record { purses = n i; ether = record { places = sym s i; count = c i }; archive = desk .archive };
+            };
+      }))
+      (λ (r : ltb (length (b .messages)) 256 ≡ false).
+      rw r (ap (λ (x : Held). record { answer = 1; held = x }) (put-laid p q h)))
+      (which (ltb (length (b .messages)) 256))))
+      (which (eqb (m .kind) 0))
+
+module _ (b : Bench) (t : Table b) (own : Name) where
+  -- the record that is looked up
+  abbrev here : Purse
+  here = getD (laid b .table) (placeIn own) zeroPurse
+
+  module _ (h : own .0 < length (b .purses)) where
+    found : here ≡ purseAt b (own .0)
+    found =
+        ap (λ (i : ℕ). getD (laid b .table) i zeroPurse) (place-in b t own h)
+        ∙ read-padded 32 zeroPurse (b .purses) (own .0) h
+
+    carried-laid : (a : CardAnswer) → shown (carried b (own .0) a) ≡ putBack (laid b) (placeIn own) (carriedOn here (laid b .desk) a)
+    unfolding carriedOn
+    carried-laid a =
+        ⊎-elim
+        (λ (k : eqb (a .answer) 0 ≡ true).
+        rw k
+        (sent-laid b (own .0) (a .purse) (a .message) h
+        ∙ ap (λ (i : ℕ). putBack (laid b) i (sentOn (a .purse) (laid b .desk) (a .message))) (sym (place-in b t own h))))
+        (λ (k : eqb (a .answer) 0 ≡ false). rw k (stays (laid b) (a .answer) (placeIn own)))
+        (which (eqb (a .answer) 0))
+
+    told-laid : (e : CardEvent) → shown (carried b (own .0) (told b (own .0) e)) ≡ putBack (laid b) (placeIn own) (carriedOn here (laid b .desk) (stepBy here own e))
+    told-laid e =
+        carried-laid (told b (own .0) e)
+        ∙ ap (λ (p : Purse). putBack (laid b) (placeIn own) (carriedOn here (laid b .desk) (stepBy p own e))) (sym found)
+
+    archived-laid : (a : CardAnswer) → shown (archiving b (own .0) a) ≡ putBack (laid b) (placeIn own) (archivedOn here (laid b .desk) own a)
+    unfolding archivedOn stored
+    archived-laid a =
+        ⊎-elim
+        (λ (k : eqb (a .answer) 0 ≡ true).
+        ⊎-elim
+        (λ (r : leb 256 (length (b .archive)) ≡ true). rw (k, r) (stays (laid b) 15 (placeIn own)))
+        (λ (r : leb 256 (length (b .archive)) ≡ false).
+        let e : Entry = record { by = own; details = a .entry } in
+        let u : length (b .archive) < 256 = leb-false _ _ r in
+        let l : set (padded 32 zeroPurse (b .purses)) (own .0) (a .purse) ≡ padded 32 zeroPurse (set (b .purses) (own .0) (a .purse)) = set-padded 32 zeroPurse (b .purses) (own .0) (a .purse) h in
+        let j : set (padded 32 zeroPurse (b .purses)) (placeIn own) (a .purse) ≡ padded 32 zeroPurse (set (b .purses) (own .0) (a .purse)) = ap (λ (i : ℕ). set (padded 32 zeroPurse (b .purses)) i (a .purse)) (place-in b t own h) ∙ l in
+        let n : length (set (b .purses) (own .0) (a .purse)) ≡ length (b .purses) = length-set (b .purses) (own .0) (a .purse) in
+        let s : set (padded 256 zeroEntry (b .archive)) (length (b .archive)) e ≡ padded 256 zeroEntry (b .archive ++ (e ∷ [])) = push-padded 256 zeroEntry (b .archive) e u in
+        let c : length (b .archive ++ (e ∷ [])) ≡ length (b .archive) + 1 = length-append (b .archive) (e ∷ []) in
+        rw (k, r, lt-ltb _ _ u)
+        (λ i. record {
+          answer = 0;
+          held =
+              record {
+                table = sym j i;
+                desk = record { purses = n i; ether = laid b .desk .ether; archive = record { places = sym s i; count = c i } };
+              };
+        }))
+        (which (leb 256 (length (b .archive)))))
+        (λ (k : eqb (a .answer) 0 ≡ false). rw (k, k) (stays (laid b) (a .answer) (placeIn own)))
+        (which (eqb (a .answer) 0))
+
+    collected-laid : shown (archiving b (own .0) (told b (own .0) card.Collect)) ≡ putBack (laid b) (placeIn own) (archivedOn here (laid b .desk) own (stepBy here own card.Collect))
+    collected-laid =
+        archived-laid (told b (own .0) card.Collect)
+        ∙ ap (λ (p : Purse). putBack (laid b) (placeIn own) (archivedOn here (laid b .desk) own (stepBy p own card.Collect))) (sym found)
+
+  starts : (other : Name) (e : CardEvent) → shown (starting b (own .0) (other .0) e) ≡ putBack (laid b) (placeIn own) (toldOn (first (startTests (laid b .desk) own other)) here (laid b .desk) own e)
+  unfolding toldOn
+  starts other e =
+      ⊎-elim
+      (λ (w : leb (length (b .purses)) (own .0) ≡ true). rw w (stays (laid b) 4 (placeIn own)))
+      (λ (w : leb (length (b .purses)) (own .0) ≡ false).
+      rw w
+      (⊎-elim
+      (λ (v : leb (length (b .purses)) (other .0) ≡ true). rw v (stays (laid b) 6 (placeIn own)))
+      (λ (v : leb (length (b .purses)) (other .0) ≡ false). rw v (told-laid (leb-false _ _ w) e))
+      (which (leb (length (b .purses)) (other .0)))))
+      (which (leb (length (b .purses)) (own .0)))
+
+  delivers : (i : ℕ) → shown (delivering b (own .0) i) ≡ putBack (laid b) (placeIn own) (toldOn (first (deliverTests (laid b .desk) own i)) here (laid b .desk) own (card.Deliver (getD (laid b .desk .ether .places) i zeroMessage)))
+  unfolding toldOn
+  delivers i =
+      ⊎-elim
+      (λ (w : leb (length (b .purses)) (own .0) ≡ true). rw w (stays (laid b) 4 (placeIn own)))
+      (λ (w : leb (length (b .purses)) (own .0) ≡ false).
+      rw w
+      (⊎-elim
+      (λ (v : leb (length (b .messages)) i ≡ true). rw v (stays (laid b) 5 (placeIn own)))
+      (λ (v : leb (length (b .messages)) i ≡ false).
+      let m : getD (padded 256 zeroMessage (b .messages)) i zeroMessage ≡ messageAt b i = read-padded 256 zeroMessage (b .messages) i (leb-false _ _ v) in
+      rw (v, m) (told-laid (leb-false _ _ w) (card.Deliver (messageAt b i))))
+      (which (leb (length (b .messages)) i))))
+      (which (leb (length (b .purses)) (own .0)))
+
+  aborts : shown (aborting b (own .0)) ≡ putBack (laid b) (placeIn own) (toldOn (first (purseTests (laid b .desk) own)) here (laid b .desk) own card.Abort)
+  unfolding toldOn
+  aborts =
+      ⊎-elim
+      (λ (w : leb (length (b .purses)) (own .0) ≡ true). rw w (stays (laid b) 4 (placeIn own)))
+      (λ (w : leb (length (b .purses)) (own .0) ≡ false). rw w (told-laid (leb-false _ _ w) card.Abort))
+      (which (leb (length (b .purses)) (own .0)))
+
+  collects : shown (collecting b (own .0)) ≡ putBack (laid b) (placeIn own) (collectedOn (first (purseTests (laid b .desk) own)) here (laid b .desk) own)
+  unfolding collectedOn
+  collects =
+      ⊎-elim
+      (λ (w : leb (length (b .purses)) (own .0) ≡ true). rw w (stays (laid b) 4 (placeIn own)))
+      (λ (w : leb (length (b .purses)) (own .0) ≡ false). rw w (collected-laid (leb-false _ _ w)))
+      (which (leb (length (b .purses)) (own .0)))
+
+loses : (b : Bench) (t : Table b) (i : ℕ) → shown (losing b i) ≡ putBack (laid b) 0 (lostOn (first (loseTests (laid b .desk) i)) (getD (laid b .table) 0 zeroPurse) (laid b .desk) i)
+unfolding lostOn takenOut
+loses b t i =
+    ⊎-elim
+    (λ (w : leb (length (b .messages)) i ≡ true). rw w (stays (laid b) 5 0))
+    (λ (w : leb (length (b .messages)) i ≡ false).
+    let h : i < length (b .messages) = leb-false _ _ w in
+    let r : set (laid b .table) 0 (getD (laid b .table) 0 zeroPurse) ≡ laid b .table = set-getD (laid b .table) 0 zeroPurse in
+    let s : take i (padded 256 zeroMessage (b .messages)) ++ (drop (suc i) (padded 256 zeroMessage (b .messages)) ++ (zeroMessage ∷ [])) ≡ padded 256 zeroMessage (without i (b .messages)) = pull-padded 256 zeroMessage (b .messages) i h (t .few-messages) in
+    let c : length (without i (b .messages)) ≡ length (b .messages) - 1 = omega (arith, length-append (take i (b .messages)) (drop (suc i) (b .messages)), length-take-le i (b .messages) (omega arith), length-drop (suc i) (b .messages)) in
+    rw (w, lt-ltb _ _ h, le-leb _ _ (t .few-messages))
+    (λ k. record {
+      answer = 0;
+      held =
+          record {
+            table = sym r k;
+            desk =
+                record {
+                  purses = length (b .purses);
+                  ether = record { places = sym s k; count = c k };
+                  archive = laid b .desk .archive;
+                };
+          };
+    }))
+    (which (leb (length (b .messages)) i))
+
+acts : (b : Bench) (t : Table b) (e : Event) → shown (acting b e) ≡ byRecord (laid b) e
+unfolding acting byRecord actOn placeOf
+acts b t Malformed = stays (laid b) 3 0
+acts b t (StartFrom own other s a) = starts b t own other (card.StartFrom other s a)
+acts b t (StartTo own other s a) = starts b t own other (card.StartTo other s a)
+acts b t (Deliver own i) = delivers b t own i
+acts b t (Abort own) = aborts b t own
+acts b t (Lose i) = loses b t i
+acts b t (Collect own) = collects b t own
+
+-- the rules of the lists hold of a table that is well formed
+pub held-table : (h : Held) → heldOk h ≡ true → tableOk (seen h) ≡ true
+unfolding heldOk
+held-table h w =
+    and-r
+    (placesOk isZeroPurse 32 (h .desk .purses) (h .table)
+    && placesOk isZeroMessage 256 (h .desk .ether .count) (h .desk .ether .places)
+    && placesOk isZeroEntry 256 (h .desk .archive .count) (h .desk .archive .places))
+    (tableOk (seen h)) w
+
+pub step-by-record : (h : Held) (l : List ℕ) → heldOk h ≡ true → heldStep h l ≡ byRecord h (decoded l)
+unfolding heldStep
+step-by-record h l w =
+    let t : Table (seen h) = is-table (seen h) (held-table h w) in
+    rw w (acts (seen h) t (decoded l) ∙ ap (λ (x : Held). byRecord x (decoded l)) (laid-seen h w))
+
+-- the place is one of the table's
+placed : (n : Name) → placeIn n < 32
+placed n =
+    ⊎-elim
+    (λ (w : leb (n .0) 31 ≡ true). rw w (omega (arith, leb-true (n .0) 31 w)))
+    (λ (w : leb (n .0) 31 ≡ false). rw w (omega arith))
+    (which (leb (n .0) 31))
+
+pub place-below : (e : Event) → placeOf e < 32
+unfolding placeOf
+place-below Malformed = omega arith
+place-below (StartFrom own other s a) = placed own
+place-below (StartTo own other s a) = placed own
+place-below (Deliver own i) = placed own
+place-below (Abort own) = placed own
+place-below (Lose i) = omega arith
+place-below (Collect own) = placed own

@@ -1,0 +1,5 @@
+pub mod ByRecord
+pub mod Filling
+pub mod OpenedTable
+pub mod Summed
+pub mod Unique

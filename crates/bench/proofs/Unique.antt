@@ -1,0 +1,53 @@
+-- Each public function's contract leaves one result, and a run's one content of the answers: two that both meet it are equal, by the one
+-- law of the purse's Unique. Assumes nothing.
+use Prim.Native.Nat.{ℕ}
+use mathlib.Core.Path.{_≡_}
+use mathlib.Core.List.{List, _++_}
+use lib.ListN.{drop}
+use Rattle.purse.specs.declared.Purse.{Purse}
+use Rattle.purse.proofs.Unique.{one}
+use Rattle.desk.specs.declared.Desk.{Desk}
+use Rattle.desk.specs.declared.Held.{Held}
+use Rattle.desk.specs.declared.Answered.{Answered}
+use Rattle.desk.specs.declared.Figure.{Figure}
+use Rattle.rules.specs.declared.Event.{Event}
+use Rattle.rules.specs.Events.{decoded}
+use Rattle.rules.specs.Laid.{heldStep, heldRun, heldAnswers, heldOpening, heldClaims}
+use Rattle.bench.specs.declared.Acted.{Acted}
+use Rattle.bench.specs.declared.Ran.{Ran}
+use Rattle.bench.specs.Acts.{placeOf, actOn, byRecord}
+use Rattle.bench.specs.Runs.{pieces, taken}
+
+pub decode-one : (l : List ℕ) (r s : Event) → r ≡ decoded l → s ≡ decoded l → r ≡ s
+decode-one l r s e f = one e f
+
+pub place-of-one : (v : Event) (r s : ℕ) → r ≡ placeOf v → s ≡ placeOf v → r ≡ s
+place-of-one v r s e f = one e f
+
+pub act-one : (p : Purse) (d : Desk) (v : Event) (r s : Acted) → r ≡ actOn p d v → s ≡ actOn p d v → r ≡ s
+act-one p d v r s e f = one e f
+
+pub by-record-one : (h : Held) (l : List ℕ) (r s : Answered) → r ≡ byRecord h (decoded l) → s ≡ byRecord h (decoded l) → r ≡ s
+by-record-one h l r s e f = one e f
+
+pub event-one : (h : Held) (l : List ℕ) (r s : Answered) → r ≡ heldStep h l → s ≡ heldStep h l → r ≡ s
+event-one h l r s e f = one e f
+
+pub opening-one : (h : Held) (bs : List ℕ) (r s : Answered) → r ≡ heldOpening h bs → s ≡ heldOpening h bs → r ≡ s
+opening-one h bs r s e f = one e f
+
+pub claims-one : (h : Held) (r s : Figure) → r ≡ heldClaims h → s ≡ heldClaims h → r ≡ s
+claims-one h r s e f = one e f
+
+-- what a run promises of its result and of the answers as it leaves them
+abbrev RunSays : Held → List ℕ → List ℕ → Ran → List ℕ → Type 0
+RunSays h input answers r left =
+    (r .taken ≡ taken input answers)
+    × (r .held ≡ heldRun h (pieces (taken input answers) input))
+    × (left ≡ heldAnswers h (pieces (taken input answers) input) ++ drop (taken input answers) answers)
+
+pub run-one : (h : Held) (input answers : List ℕ) (r s : Ran) (x y : List ℕ) → RunSays h input answers r x → RunSays h input answers s y → (r ≡ s) × (x ≡ y)
+run-one h input answers r s x y e f =
+    let n : r .taken ≡ s .taken = one (e .0) (f .0) in
+    let k : r .held ≡ s .held = one (e .1) (f .1) in
+    (λ i. record { taken = n i; held = k i }, one (e .2) (f .2))

@@ -1,0 +1,29 @@
+use Rattle.purse.specs.Details.{zeroMessage}
+use lib.ListN.{length, length-map, List·getD-eq-default}
+use mathlib.Core.Path.{_≡_, refl, _∙_, sym, ap}
+use native.Mathlib.Omega.{arith}
+use borrow.Author.Needs.{needs}
+use Rattle.bench.proofs.acts.message_at.Statement.{statement}
+use Rattle.bench.proofs.acts.message_at.Tie as tie
+
+mul-result : tie.Need-mul-result
+mul-result c = search needs
+
+element-copy-out-result : tie.Need-element-copy-out-result
+element-copy-out-result c = search needs
+
+zero-requires : tie.Need-zero-requires
+zero-requires c κs = search needs
+
+returns : tie.Need-returns
+returns c = search needs
+
+returns-2 : tie.Need-returns-2
+returns-2 c = 
+    let start = c .before .before in
+    let long : length (start .args .t1 .places) ≡ 256 = simp length-map at (start .good .0 .1 .1 .0 .1 .0 .1) in
+    c .zero .ensures ∙ sym (List·getD-eq-default (start .args .t1 .places) zeroMessage (omega (arith, c .before .if1 .left)))
+
+pub message-at-spec : {M : Type 1} → statement M
+message-at-spec =
+    tie.close (tie.spec mul-result element-copy-out-result zero-requires returns returns-2)

@@ -1,0 +1,15 @@
+use borrow.Author.Needs.{needs}
+use Rattle.bench.proofs.open.is_within.Statement.{statement}
+use Rattle.bench.proofs.open.is_within.Tie as tie
+
+opened-requires : tie.Need-opened-requires
+opened-requires c κs = search needs
+
+ceiling-requires : tie.Need-ceiling-requires
+ceiling-requires c κs = search needs
+
+returns : tie.Need-returns
+returns c = rw (c .ceiling .ensures)
+
+pub is-within-spec : {M : Type 1} → statement M
+is-within-spec = tie.close (tie.spec opened-requires ceiling-requires returns)

@@ -1,0 +1,24 @@
+use Rattle.bench.specs.Claims.{claimOf}
+use mathlib.Core.Path.{_≡_, refl, _∙_, sym, ap}
+use borrow.Author.Tests.{eq-eqb, ne-eqb, le-leb, lt-leb}
+use borrow.Author.Needs.{needs}
+use Rattle.bench.proofs.owed.claim.Statement.{statement}
+use Rattle.bench.proofs.owed.claim.Tie as tie
+
+logged-requires : tie.Need-logged-requires
+logged-requires c κs = search needs
+
+returns : tie.Need-returns
+unfolding claimOf
+returns c = simp (eq-eqb _ _ (c .before .before .if1 .taken), sym (c .before .logged .ensures) ∙ c .if2 .taken)
+
+returns-2 : tie.Need-returns-2
+unfolding claimOf
+returns-2 c = simp (eq-eqb _ _ (c .before .before .if1 .taken), sym (c .before .logged .ensures) ∙ c .if2 .left)
+
+returns-3 : tie.Need-returns-3
+unfolding claimOf
+returns-3 c = simp (ne-eqb _ _ (c .if1 .left))
+
+pub claim-spec : {M : Type 1} → statement M
+claim-spec = tie.close (tie.spec logged-requires returns returns-2 returns-3)

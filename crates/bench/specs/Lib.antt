@@ -1,0 +1,4 @@
+pub mod Acts
+pub mod Opens
+pub mod Claims
+pub mod Runs

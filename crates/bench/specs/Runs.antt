@@ -1,0 +1,18 @@
+-- A run over a piece of input: its whole events of 12 bytes, as many as there are places for answers.
+use Prim.Native.Nat.{ℕ, zero, suc, _/_}
+use mathlib.Core.Bool.{cond}
+use mathlib.Core.List.{List, [], _∷_}
+use lib.ListN.{length, take, drop}
+use lib.Dec.{leb}
+
+abbrev pub smaller : ℕ → ℕ → ℕ
+smaller a b = cond (leb a b) a b
+
+-- the first n pieces of 12 bytes
+abbrev pub pieces : ℕ → List ℕ → List (List ℕ)
+pieces zero l = []
+pieces (suc n) l = take 12 l ∷ pieces n (drop 12 l)
+
+-- how many events are taken
+unfoldable pub taken : List ℕ → List ℕ → ℕ
+taken input answers = smaller (length input / 12) (length answers)

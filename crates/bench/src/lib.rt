@@ -1,0 +1,33 @@
+// The bench: takes hostile events one by one on a table of purses, the messages between them and the issuer's archive. All is by value: what
+// the bench holds goes in, and comes back.
+use desk::Desk;
+use desk::Held;
+use purse::Purse;
+
+pub mod acts; // acts.rt: what an event does at one record and the desk
+pub mod events; // events.rt: an event's bytes read
+pub mod open; // open.rt: a bench opened
+pub mod owed; // owed.rt: the claims figure
+pub mod runs; // runs.rt: many events
+pub mod step; // step.rt: an event at the whole bench
+pub use acts::act;
+pub use acts::place_of;
+pub use open::opening;
+pub use owed::claims;
+pub use runs::run;
+pub use step::event;
+
+// What an event does at the record that it names: the answer, and the record and the desk as they then stand.
+#[repr(C)]
+pub struct Acted {
+    pub answer: u8,
+    pub purse: Purse,
+    pub desk: Desk,
+}
+
+// How many events a run took, and what the bench then holds.
+#[repr(C)]
+pub struct Ran {
+    pub taken: usize,
+    pub held: Held,
+}

@@ -1,0 +1,70 @@
+// Many events: the rules are tested once, since every step keeps them.
+use crate::Ran;
+use crate::step::by_record;
+use desk::Held;
+ghost use mathlib.Core.Path.{_≡_};
+ghost use mathlib.Core.Bool.{true};
+ghost use mathlib.Core.List.{_++_};
+ghost use Prim.Native.Nat.{_*_, _≤_};
+ghost use lib.ListN.{length, drop, replicate};
+ghost use Rattle.rules.specs.Laid.{heldOk, heldRun, heldAnswers};
+ghost use Rattle.bench.specs.Runs.{smaller, pieces, taken};
+
+fn smaller(a: usize, b: usize) -> usize
+    ensures { λ r. ⌜ r ≡ smaller a b ⌝ }
+{
+    if a <= b { a } else { b }
+}
+
+// The first n events, at a table that is well formed.
+fn each(held: Held, input: &[u8], answers: &mut [u8], n: usize) -> Held
+    requires { ⌜ (heldOk held ≡ true) × (12 * n ≤ length (now input)) × (n ≤ length (now answers)) ⌝ }
+    ensures { λ r. ⌜ (r ≡ heldRun held (pieces n (now (input .entry)))) × (now (answers .exit) ≡ heldAnswers held (pieces n (now (input .entry))) ++ drop n (now (answers .entry))) ⌝ }
+{
+    let mut h = held;
+    let mut i: usize = 0;
+    while i < n {
+        let at = 12 * i;
+        let end = at + 12;
+        let a = by_record(h, &input[at..end]);
+        answers[i] = a.answer;
+        let next = a.held;
+        h = next;
+        i += 1;
+    }
+    h
+}
+
+// Answer 2 to each of the first n events.
+fn refuse(answers: &mut [u8], n: usize)
+    requires { ⌜ n ≤ length (now answers) ⌝ }
+    ensures { λ r. ⌜ now (answers .exit) ≡ replicate n 2 ++ drop n (now (answers .entry)) ⌝ }
+{
+    let mut i: usize = 0;
+    while i < n {
+        answers[i] = 2;
+        i += 1;
+    }
+}
+
+// The whole events of the input, as many as there are places for answers. Places past them stay as they were.
+pub fn run(held: Held, input: &[u8], answers: &mut [u8]) -> Ran
+    ensures { λ r. ⌜ (r .taken ≡ taken (now (input .entry)) (now (answers .entry)))
+        × (r .held ≡ heldRun held (pieces (taken (now (input .entry)) (now (answers .entry))) (now (input .entry))))
+        × (now (answers .exit) ≡ heldAnswers held (pieces (taken (now (input .entry)) (now (answers .entry))) (now (input .entry))) ++ drop (taken (now (input .entry)) (now (answers .entry))) (now (answers .entry))) ⌝ }
+{
+    let n = smaller(input.len() / 12, answers.len());
+    if table::held_ok(held) {
+        let h = each(held, input, answers, n);
+        Ran {
+            taken: n,
+            held: h,
+        }
+    } else {
+        refuse(answers, n);
+        Ran {
+            taken: n,
+            held: held,
+        }
+    }
+}

@@ -1,0 +1,12 @@
+use borrow.Author.Needs.{needs}
+use Rattle.card.proofs.answers.idle.Statement.{statement}
+use Rattle.card.proofs.answers.idle.Tie as tie
+
+zero-requires : tie.Need-zero-requires
+zero-requires c κs = search needs
+
+returns : tie.Need-returns
+returns c = cc
+
+pub idle-spec : {M : Type 1} → statement M
+idle-spec = tie.close (tie.spec zero-requires returns)

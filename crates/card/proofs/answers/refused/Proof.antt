@@ -1,0 +1,15 @@
+use borrow.Author.Needs.{needs}
+use Rattle.card.proofs.answers.refused.Statement.{statement}
+use Rattle.card.proofs.answers.refused.Tie as tie
+
+zero-requires : tie.Need-zero-requires
+zero-requires c κs = search needs
+
+zero-requires-2 : tie.Need-zero-requires-2
+zero-requires-2 c κs = search needs
+
+returns : tie.Need-returns
+returns c = cc
+
+pub refused-spec : {M : Type 1} → statement M
+refused-spec = tie.close (tie.spec zero-requires zero-requires-2 returns)

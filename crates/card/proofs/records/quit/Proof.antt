@@ -1,0 +1,23 @@
+use mathlib.Core.Path.{sym, _∙_}
+use Rattle.card.proofs.Cases.{quit-idle, quit-epr, quit-busy}
+use borrow.Author.Needs.{needs}
+use Rattle.card.proofs.records.quit.Statement.{statement}
+use Rattle.card.proofs.records.quit.Tie as tie
+
+idle-requires : tie.Need-idle-requires
+idle-requires c κs = search needs
+
+stop-requires : tie.Need-stop-requires
+stop-requires c κs = c .before .pre (c .match .rest .0 .1)
+
+returns : tie.Need-returns
+returns c = sym (quit-idle (c .before .args .p) (c .match .keys1))
+
+returns-2 : tie.Need-returns-2
+returns-2 c = c .idle .ensures ∙ sym (quit-epr (c .before .before .args .p) (c .before .match .keys2))
+
+returns-3 : tie.Need-returns-3
+returns-3 c = c .stop .ensures ∙ sym (quit-busy (c .before .before .args .p) (c .before .match .rest .0 .1) (c .before .match .rest .1))
+
+pub quit-spec : {M : Type 1} → statement M
+quit-spec = tie.close (tie.spec idle-requires stop-requires returns returns-2 returns-3)

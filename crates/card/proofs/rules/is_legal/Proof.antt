@@ -1,0 +1,10 @@
+use Rattle.purse.specs.Details.{legal}
+use Rattle.card.proofs.rules.is_legal.Statement.{statement}
+use Rattle.card.proofs.rules.is_legal.Tie as tie
+
+returns : tie.Need-returns
+unfolding legal
+returns c = cc
+
+pub is-legal-spec : {M : Type 1} → statement M
+is-legal-spec = tie.close (tie.spec returns)

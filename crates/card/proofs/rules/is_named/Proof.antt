@@ -1,0 +1,14 @@
+use Rattle.purse.specs.Details.{named}
+use borrow.Author.Needs.{needs}
+use Rattle.card.proofs.rules.is_named.Statement.{statement}
+use Rattle.card.proofs.rules.is_named.Tie as tie
+
+is-legal-requires : tie.Need-is-legal-requires
+is-legal-requires c κs = search needs
+
+returns : tie.Need-returns
+unfolding named
+returns c = cc
+
+pub is-named-spec : {M : Type 1} → statement M
+is-named-spec = tie.close (tie.spec is-legal-requires returns)

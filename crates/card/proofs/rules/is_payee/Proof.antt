@@ -1,0 +1,10 @@
+use Rattle.purse.specs.Details.{asPayee}
+use Rattle.card.proofs.rules.is_payee.Statement.{statement}
+use Rattle.card.proofs.rules.is_payee.Tie as tie
+
+returns : tie.Need-returns
+unfolding asPayee
+returns c = cc
+
+pub is-payee-spec : {M : Type 1} → statement M
+is-payee-spec = tie.close (tie.spec returns)

@@ -1,0 +1,10 @@
+use Rattle.purse.specs.Details.{asPayer}
+use Rattle.card.proofs.rules.is_payer.Statement.{statement}
+use Rattle.card.proofs.rules.is_payer.Tie as tie
+
+returns : tie.Need-returns
+unfolding asPayer
+returns c = cc
+
+pub is-payer-spec : {M : Type 1} → statement M
+is-payer-spec = tie.close (tie.spec returns)

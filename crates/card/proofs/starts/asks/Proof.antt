@@ -1,0 +1,15 @@
+use borrow.Author.Needs.{needs}
+use Rattle.card.proofs.starts.asks.Statement.{statement}
+use Rattle.card.proofs.starts.asks.Tie as tie
+
+begun-requires : tie.Need-begun-requires
+begun-requires c κs = c .pre
+
+sends-requires : tie.Need-sends-requires
+sends-requires c κs = search needs
+
+returns : tie.Need-returns
+returns c = cc
+
+pub asks-spec : {M : Type 1} → statement M
+asks-spec = tie.close (tie.spec begun-requires sends-requires returns)

@@ -1,0 +1,32 @@
+// The card: one purse record and its step. Told its own name, a card takes a start, a message, an abort or a collect, and gives the
+// answer's number, the record and what it hands out. It knows nothing of a bench.
+pub mod rules; // rules.rt: the test of the rules about one purse alone
+pub mod numbers; // numbers.rt: the tests of each step, in document 01's order
+pub mod answers; // answers.rt: refused, done
+pub mod starts; // starts.rt: start-from and start-to
+pub mod delivery; // delivery.rt: a message
+pub mod records; // records.rt: the exception log's steps, abort and collect
+
+use purse::CardAnswer;
+use purse::CardEvent;
+use purse::Name;
+use purse::Purse;
+ghost use mathlib.Core.Path.{_≡_};
+ghost use Rattle.purse.specs.Card.{stepBy};
+
+// The card's whole step, on its record by value.
+pub fn step(purse: Purse, own: Name, event: CardEvent) -> CardAnswer
+    ensures { λ r. ⌜ r ≡ stepBy purse own event ⌝ }
+{
+    match event {
+        CardEvent::StartFrom { other, seq, amount } => {
+            starts::start_from(purse, own, other, seq, amount)
+        }
+        CardEvent::StartTo { other, seq, amount } => {
+            starts::start_to(purse, own, other, seq, amount)
+        }
+        CardEvent::Deliver(m) => delivery::deliver(purse, own, m),
+        CardEvent::Abort => records::abort(purse, own),
+        CardEvent::Collect => records::collect(purse, own),
+    }
+}

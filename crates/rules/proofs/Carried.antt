@@ -1,0 +1,160 @@
+-- The theorems on lists hold of the lent table and the desk: a run of the code's step is the run on lists, laid out; its answers, and what
+-- was paid and arrived, are those of the lists; so each theorem is carried over by rewriting.
+-- Assumes nothing.
+use Prim.Native.Nat.{ℕ, _+_, _≤_, _<_}
+use mathlib.Core.Path.{_≡_, refl, _∙_, sym, ap, subst}
+use mathlib.Core.Bool.{Bool, true, false, not, cond}
+use mathlib.Core.Logic.{⊎-elim}
+use mathlib.Core.List.{List, [], _∷_, _++_, map}
+use lib.ListN.{length, getD}
+use lib.Dec.{ltb, leb, eqb}
+use native.Mathlib.Omega.{arith}
+use borrow.Author.Tests.{eqb-true, eqb-false}
+use Rattle.purse.specs.declared.Details.{Details}
+use Rattle.purse.specs.declared.Purse.{Purse}
+use Rattle.purse.specs.Lists.{all, among, distinct, total, sumTo}
+use Rattle.purse.specs.Details.{sameDetails}
+use Rattle.purse.specs.Purse.{zeroPurse}
+use Rattle.purse.proofs.Bools.{which}
+use Rattle.purse.proofs.Count.{sum-same}
+use Rattle.purse.proofs.Padded.{read-anywhere}
+use Rattle.desk.specs.declared.Held.{Held}
+use Rattle.desk.specs.declared.Answered.{Answered}
+use Rattle.rules.specs.Bench.{Bench, purseAt, balanceAt}
+use Rattle.rules.specs.Table.{tableOk}
+use Rattle.rules.specs.Events.{decoded}
+use Rattle.rules.specs.Steps.{acting, step}
+use Rattle.rules.specs.Run.{openingNumber, opened, run, answers}
+use Rattle.rules.specs.Paid.{delivers, movedBy, moved, amountOf, matched, paidOut, takenIn, abortOf}
+use Rattle.rules.specs.Laid.{laid, seen, heldOk, heldStep, heldRun, heldAnswers, heldOpening}
+use Rattle.rules.specs.HeldPaid.{heldPurse, heldBalance, heldMoved, heldPaid, heldArrived}
+use Rattle.rules.proofs.Places.{seen-laid, laid-seen, seen-ok, held-laid, step-laid}
+use Rattle.rules.proofs.Kept.{never, keep-step, keep-run}
+use Rattle.rules.proofs.Orders.{never-two}
+use Rattle.rules.proofs.Answers.{refused-same, others-same}
+use Rattle.rules.proofs.Opened.{opened-ok}
+use Rattle.rules.proofs.Safe.{sum-safe, arrived-paid, paid-once, arrived-once, stopped-safe, stops-done}
+
+-- a run on places is the run on lists
+module _ (b : Bench) (l : List ℕ) (w : tableOk b ≡ true) where
+  answer-laid : heldStep (laid b) l .answer ≡ step b l .answer
+  answer-laid = ap (λ (a : Answered). a .answer) (step-laid b l w)
+
+  after-laid : heldStep (laid b) l .held ≡ laid (step b l .bench)
+  after-laid = ap (λ (a : Answered). a .held) (step-laid b l w)
+
+pub run-laid : (b : Bench) (ls : List (List ℕ)) → tableOk b ≡ true → heldRun (laid b) ls ≡ laid (run b ls)
+run-laid b [] w = refl
+run-laid b (l ∷ ls) w = ap (λ (h : Held). heldRun h ls) (after-laid b l w) ∙ run-laid (step b l .bench) ls (keep-step b l w)
+
+pub answers-laid : (b : Bench) (ls : List (List ℕ)) → tableOk b ≡ true → heldAnswers (laid b) ls ≡ answers b ls
+answers-laid b [] w = refl
+answers-laid b (l ∷ ls) w =
+    let e : heldStep (laid b) l .answer ≡ step b l .answer = answer-laid b l w in
+    let r : heldAnswers (heldStep (laid b) l .held) ls ≡ answers (step b l .bench) ls =
+    ap (λ (h : Held). heldAnswers h ls) (after-laid b l w) ∙ answers-laid (step b l .bench) ls (keep-step b l w)
+    in
+    λ i. e i ∷ r i
+
+pub moved-laid : (k : ℕ) (b : Bench) (ls : List (List ℕ)) → tableOk b ≡ true → heldMoved k (laid b) ls ≡ moved k b ls
+unfolding movedBy
+moved-laid k b [] w = refl
+moved-laid k b (l ∷ ls) w =
+    let e : cond (leb (heldStep (laid b) l .answer) 1) (delivers k (seen (laid b)) (decoded l)) [] ≡ movedBy k b l =
+    λ i. cond (leb (answer-laid b l w i) 1) (delivers k (seen-laid b i) (decoded l)) []
+    in
+    let r : heldMoved k (heldStep (laid b) l .held) ls ≡ moved k (step b l .bench) ls =
+    ap (λ (h : Held). heldMoved k h ls) (after-laid b l w) ∙ moved-laid k (step b l .bench) ls (keep-step b l w)
+    in
+    λ i. e i ++ r i
+
+pub purse-laid : (b : Bench) (p : ℕ) → heldPurse (laid b) p ≡ purseAt b p
+purse-laid b p = read-anywhere 32 zeroPurse (b .purses) p
+
+balance-laid : (b : Bench) (p : ℕ) → heldBalance (laid b) p ≡ balanceAt b p
+balance-laid b p = ap (λ (q : Purse). q .balance .0) (purse-laid b p)
+
+-- 2 leaves the table and the desk as they were
+refused-two : (h : Held) (l : List ℕ) → heldOk h ≡ false → heldStep h l ≡ record { answer = 2; held = h }
+unfolding heldStep
+refused-two h l w = rw w
+
+-- what holds of a step on lists laid out, and of a table that is left as it was, holds of every step
+by-held : (h : Held) (l : List ℕ) (T : Held → Answered → Type 0) → (heldOk h ≡ false → T h (record { answer = 2; held = h })) → ((b : Bench) → tableOk b ≡ true → T (laid b) (record { answer = step b l .answer; held = laid (step b l .bench) })) → T h (heldStep h l)
+by-held h l T bad good =
+    ⊎-elim
+    (λ (w : heldOk h ≡ true).
+    subst (λ (k : Held). T k (heldStep k l)) (laid-seen h w) (rw (step-laid (seen h) l (seen-ok h w)) (good (seen h) (seen-ok h w))))
+    (λ (w : heldOk h ≡ false). rw (refused-two h l w) (bad w))
+    (which (heldOk h))
+
+-- a step keeps the rules of a table and desk that obey them
+pub held-kept : (h : Held) (l : List ℕ) → heldOk h ≡ true → heldOk (heldStep h l .held) ≡ true
+held-kept h l =
+    by-held h l (λ (h : Held) (a : Answered). heldOk h ≡ true → heldOk (a .held) ≡ true) (λ no ok. ok)
+    (λ b w ok. held-laid (step b l .bench) (keep-step b l w))
+
+-- and never answers 2
+pub held-never-two : (h : Held) (l : List ℕ) → heldOk h ≡ true → heldStep h l .answer ≡ 2 → ⊥
+held-never-two h l =
+    by-held h l (λ (h : Held) (a : Answered). heldOk h ≡ true → a .answer ≡ 2 → ⊥) (λ no ok. absurd (never _ ok no))
+    (λ b w ok. never-two b l w)
+
+-- any table and desk: a refusal changes nothing
+pub held-refused-same : (h : Held) (l : List ℕ) → 2 ≤ heldStep h l .answer → heldStep h l .held ≡ h
+held-refused-same h l =
+    by-held h l (λ (h : Held) (a : Answered). 2 ≤ a .answer → a .held ≡ h) (λ no high. refl)
+    (λ b w high. ap laid (refused-same b l high))
+
+-- and a record that the event does not name stays as it is
+pub held-others-same : (h : Held) (l : List ℕ) (k : ℕ) → (k ≡ getD l 1 0 → ⊥) → heldPurse (heldStep h l .held) k ≡ heldPurse h k
+held-others-same h l k other =
+    by-held h l (λ (h : Held) (a : Answered). heldPurse (a .held) k ≡ heldPurse h k) (λ no. refl)
+    (λ b w. purse-laid (step b l .bench) k ∙ (others-same b l k other ∙ sym (purse-laid b k)))
+
+-- opening: where it answers 0, the table and desk are the opened bench, laid out
+pub held-opens : (h : Held) (bs : List ℕ) → heldOpening h bs .answer ≡ 0 → (openingNumber bs ≡ 0) × (heldOpening h bs .held ≡ laid (opened bs))
+unfolding heldOpening
+held-opens h bs =
+    ⊎-elim
+    (λ (e : eqb (length (h .table)) 32 ≡ true).
+    ⊎-elim
+    (λ (f : eqb (openingNumber bs) 0 ≡ true). rw (e, f) (λ z. (eqb-true _ _ f, refl)))
+    (λ (f : eqb (openingNumber bs) 0 ≡ false). rw (e, f) (λ z. absurd (eqb-false _ _ f z)))
+    (which (eqb (openingNumber bs) 0)))
+    (λ (e : eqb (length (h .table)) 32 ≡ false). rw e (λ z. absurd (omega (arith, z))))
+    (which (eqb (length (h .table)) 32))
+
+-- of every bench opened by the rules, after every list of events
+module _ (bs : List ℕ) (es : List (List ℕ)) (ok : openingNumber bs ≡ 0) where
+  ran : heldRun (laid (opened bs)) es ≡ laid (run (opened bs) es)
+  ran = run-laid (opened bs) es (opened-ok bs ok)
+
+  pub held-run-ok : heldOk (heldRun (laid (opened bs)) es) ≡ true
+  held-run-ok = rw ran (held-laid (run (opened bs) es) (keep-run (opened bs) es (opened-ok bs ok)))
+
+  pub held-sum-safe : sumTo (length bs) (heldBalance (heldRun (laid (opened bs)) es)) ≤ sumTo (length bs) (heldBalance (laid (opened bs)))
+  held-sum-safe =
+      rw ran
+      (omega (arith, sum-safe bs es ok,
+      sum-same (length bs) (heldBalance (laid (run (opened bs) es))) (balanceAt (run (opened bs) es)) (λ (p : ℕ) (l : p < length bs). balance-laid (run (opened bs) es) p),
+      sum-same (length bs) (heldBalance (laid (opened bs))) (balanceAt (opened bs)) (λ (p : ℕ) (l : p < length bs). balance-laid (opened bs) p)))
+
+  pub held-arrived-paid : (d : Details) → among sameDetails d (heldArrived (laid (opened bs)) es) ≡ true → among sameDetails d (heldPaid (laid (opened bs)) es) ≡ true
+  held-arrived-paid = rw (moved-laid 2 (opened bs) es (opened-ok bs ok), moved-laid 1 (opened bs) es (opened-ok bs ok)) (arrived-paid bs es ok)
+
+  pub held-paid-once : distinct sameDetails (heldPaid (laid (opened bs)) es) ≡ true
+  held-paid-once = rw (moved-laid 1 (opened bs) es (opened-ok bs ok)) (paid-once bs es ok)
+
+  pub held-arrived-once : distinct sameDetails (heldArrived (laid (opened bs)) es) ≡ true
+  held-arrived-once = rw (moved-laid 2 (opened bs) es (opened-ok bs ok)) (arrived-once bs es ok)
+
+  pub held-stops-done : (ps : List ℕ) → all (λ (p : ℕ). ltb p (length bs)) ps ≡ true → heldAnswers (heldRun (laid (opened bs)) es) (map abortOf ps) ≡ map (λ (p : ℕ). 0) ps
+  held-stops-done ps h =
+      rw (ran, answers-laid (run (opened bs) es) (map abortOf ps) (keep-run (opened bs) es (opened-ok bs ok))) (stops-done bs es ps ok h)
+
+pub held-stopped-safe : (bs : List ℕ) (es : List (List ℕ)) (ps : List ℕ) → openingNumber bs ≡ 0 → ((p : ℕ) → p < length bs → among eqb p ps ≡ true) → (p : ℕ) → p < length bs → heldBalance (heldRun (laid (opened bs)) (es ++ map abortOf ps)) p + total amountOf (matched (seen (heldRun (laid (opened bs)) (es ++ map abortOf ps))) p) + paidOut p (heldArrived (laid (opened bs)) (es ++ map abortOf ps)) ≡ heldBalance (laid (opened bs)) p + takenIn p (heldArrived (laid (opened bs)) (es ++ map abortOf ps))
+held-stopped-safe bs es ps ok every p l =
+    let c : Bench = run (opened bs) (es ++ map abortOf ps) in
+    rw (ran bs (es ++ map abortOf ps) ok, moved-laid 2 (opened bs) (es ++ map abortOf ps) (opened-ok bs ok))
+    (omega (arith, stopped-safe bs es ps ok every p l, balance-laid c p, balance-laid (opened bs) p, ap (λ (b : Bench). total amountOf (matched b p)) (seen-laid c)))

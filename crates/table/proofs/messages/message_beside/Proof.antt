@@ -1,0 +1,17 @@
+use Rattle.table.specs.Records.{messageBeside}
+use borrow.Author.Needs.{needs}
+use Rattle.table.proofs.messages.message_beside.Statement.{statement}
+use Rattle.table.proofs.messages.message_beside.Tie as tie
+
+payee-ok-requires : tie.Need-payee-ok-requires
+payee-ok-requires c κs = search needs
+
+payer-ok-requires : tie.Need-payer-ok-requires
+payer-ok-requires c κs = search needs
+
+returns : tie.Need-returns
+unfolding messageBeside
+returns c = cc
+
+pub message-beside-spec : {M : Type 1} → statement M
+message-beside-spec = tie.close (tie.spec payee-ok-requires payer-ok-requires returns)

@@ -1,0 +1,12 @@
+use borrow.Author.Tests.{lt-ltb, le-ltb}
+use Rattle.table.proofs.places.at_most.Statement.{statement}
+use Rattle.table.proofs.places.at_most.Tie as tie
+
+returns : tie.Need-returns
+returns c = rw (lt-ltb _ _ (c .if1 .taken))
+
+returns-2 : tie.Need-returns-2
+returns-2 c = rw (le-ltb _ _ (c .if1 .left))
+
+pub at-most-spec : {M : Type 1} → statement M
+at-most-spec = tie.close (tie.spec returns returns-2)

@@ -1,0 +1,117 @@
+// The ether's messages: alone, and beside a record.
+use crate::places::at_most;
+use crate::places::is_within;
+use card::rules::is_named;
+use desk::Ether;
+use purse::Message;
+use purse::Name;
+use purse::Purse;
+ghost use mathlib.Core.Path.{_≡_};
+ghost use lib.ListN.{drop};
+ghost use Rattle.purse.specs.Lists.{all, distinct};
+ghost use Rattle.purse.specs.Details.{sameMessage};
+ghost use Rattle.rules.specs.Laid.{isZeroMessage};
+ghost use Rattle.table.specs.Records.{standing, messageAlone, etherAlone, payeeOk, payerOk, messageBeside};
+
+// A message's kind and what its details name.
+fn message_alone(m: Message, purses: u8) -> bool
+    ensures { λ r. ⌜ r ≡ messageAlone purses m ⌝ }
+{
+    (1 <= m.kind) & (m.kind <= 3) & is_named(m.details) & is_within(m.details, purses)
+}
+
+fn each_alone(e: Ether, purses: u8) -> bool
+    ensures { λ r. ⌜ r ≡ all (messageAlone purses) (standing e) ⌝ }
+{
+    let count = at_most(e.count as usize, 256);
+    let mut ok = true;
+    let mut i: usize = 0;
+    while i < count {
+        let m = e.places[i];
+        ok = ok & message_alone(m, purses);
+        i += 1;
+    }
+    ok
+}
+
+fn unused_zero(e: Ether) -> bool
+    ensures { λ r. ⌜ r ≡ all isZeroMessage (drop (e .count) (e .places)) ⌝ }
+{
+    let zero = Message::zero();
+    let mut ok = true;
+    let mut i = e.count as usize;
+    while i < 256 {
+        let m = e.places[i];
+        ok = ok & m.same(zero);
+        i += 1;
+    }
+    ok
+}
+
+// Each message against those before it.
+fn no_two_equal(e: Ether) -> bool
+    ensures { λ r. ⌜ r ≡ distinct sameMessage (standing e) ⌝ }
+{
+    let count = at_most(e.count as usize, 256);
+    let mut ok = true;
+    let mut i: usize = 0;
+    while i < count {
+        let m = e.places[i];
+        let mut hit = false;
+        let mut j: usize = 0;
+        while j < i {
+            let o = e.places[j];
+            hit = hit | m.same(o);
+            j += 1;
+        }
+        ok = ok & !hit;
+        i += 1;
+    }
+    ok
+}
+
+pub fn ether_alone(e: Ether, purses: u8) -> bool
+    ensures { λ r. ⌜ r ≡ etherAlone purses e ⌝ }
+{
+    (e.count <= 256) & unused_zero(e) & each_alone(e, purses) & no_two_equal(e)
+}
+
+// A message beside the record of its payee.
+fn payee_ok(p: Purse, m: Message) -> bool
+    ensures { λ r. ⌜ r ≡ payeeOk p m ⌝ }
+{
+    let d = m.details;
+    let s = d.payeeseq.0;
+    (1 <= s) & (s < p.next.0) & !((m.kind == 3) & ((p.status == 2) & d.same(p.details)))
+}
+
+// A message beside the record of its payer.
+fn payer_ok(p: Purse, m: Message) -> bool
+    ensures { λ r. ⌜ r ≡ payerOk p m ⌝ }
+{
+    let d = m.details;
+    let s = d.payerseq.0;
+    ((m.kind == 1) | ((1 <= s) & (s < p.next.0)))
+        & !((2 <= m.kind) & ((p.status == 1) & d.same(p.details)))
+}
+
+fn message_beside(p: Purse, own: Name, m: Message) -> bool
+    ensures { λ r. ⌜ r ≡ messageBeside (own .0) p m ⌝ }
+{
+    (!(m.details.payee.0 == own.0) | payee_ok(p, m))
+        & (!(m.details.payer.0 == own.0) | payer_ok(p, m))
+}
+
+pub fn each_beside(e: Ether, p: Purse, own: Name) -> bool
+    ensures { λ r. ⌜ r ≡ all (messageBeside (own .0) p) (standing e) ⌝ }
+{
+    let count = at_most(e.count as usize, 256);
+    let mut ok = true;
+    let mut i: usize = 0;
+    while i < count {
+        let m = e.places[i];
+        ok = ok & message_beside(p, own, m);
+        i += 1;
+    }
+    ok
+}

@@ -1,0 +1,18 @@
+// Places and names that must lie within a count.
+use purse::Details;
+ghost use mathlib.Core.Path.{_≡_};
+ghost use Rattle.table.specs.Records.{atMost, within};
+
+// The count, or all the places where it is larger.
+pub fn at_most(count: usize, many: usize) -> usize
+    ensures { λ r. ⌜ r ≡ atMost count many ⌝ }
+{
+    if many < count { many } else { count }
+}
+
+// Whether both names are below the purse count.
+pub fn is_within(d: Details, purses: u8) -> bool
+    ensures { λ r. ⌜ r ≡ within purses d ⌝ }
+{
+    (d.payer.0 < purses) & (d.payee.0 < purses)
+}

@@ -1,0 +1,58 @@
+// One record: what its running details and its log name and hold, and whether it is unused.
+use crate::places::at_most;
+use crate::places::is_within;
+use purse::Details;
+use purse::Purse;
+ghost use mathlib.Core.Path.{_≡_};
+ghost use Rattle.rules.specs.Laid.{isZeroPurse};
+ghost use Rattle.table.specs.Records.{namesOk, holds};
+
+// Whether running details and log entries name purses of the table.
+pub fn names_ok(p: Purse, purses: u8) -> bool
+    ensures { λ r. ⌜ r ≡ namesOk purses p ⌝ }
+{
+    let count = at_most(p.logged as usize, 8);
+    let mut ok = true;
+    let mut i: usize = 0;
+    while i < count {
+        let d = p.log[i];
+        ok = ok & is_within(d, purses);
+        i += 1;
+    }
+    ((p.status == 0) | is_within(p.details, purses)) & ok
+}
+
+// Whether the details are running or in the log.
+pub fn holds(p: Purse, d: Details) -> bool
+    ensures { λ r. ⌜ r ≡ holds p d ⌝ }
+{
+    let count = at_most(p.logged as usize, 8);
+    let mut hit = false;
+    let mut i: usize = 0;
+    while i < count {
+        let e = p.log[i];
+        hit = hit | d.same(e);
+        i += 1;
+    }
+    (!(p.status == 0) & d.same(p.details)) | hit
+}
+
+// Whether each place of the record is zero.
+pub fn is_zero(p: Purse) -> bool
+    ensures { λ r. ⌜ r ≡ isZeroPurse p ⌝ }
+{
+    let zero = Details::zero();
+    let mut ok = true;
+    let mut i: usize = 0;
+    while i < 8 {
+        let d = p.log[i];
+        ok = ok & d.same(zero);
+        i += 1;
+    }
+    (p.balance.0 == 0)
+        & (p.next.0 == 0)
+        & (p.status == 0)
+        & (p.logged == 0)
+        & p.details.same(zero)
+        & ok
+}
