@@ -1,6 +1,5 @@
+pub mod Puts
+pub mod Gets
 pub mod Past
-pub mod Firsts
-pub mod Heads
-pub mod Whole
-pub mod Stands
-pub mod Trips
+pub mod Calls
+pub mod Unique

@@ -1,14 +1,14 @@
 // The head of an image: mark, version, purse count, message count, archive count.
-use codec::numbers::get_count;
-use codec::numbers::put_byte;
-use codec::numbers::put_count;
+use crate::numbers::get_count;
+use crate::numbers::put_byte;
+use crate::numbers::put_count;
 use purse::tested;
 ghost use mathlib.Core.Path.{_≡_};
 ghost use Prim.Native.Nat.{_≤_, _<_};
 ghost use lib.ListN.{length};
 ghost use Rattle.purse.specs.Tests.{first};
-ghost use Rattle.codec.specs.Bytes.{put};
-ghost use Rattle.image.specs.Head.{headBytes, headTests, imageLength};
+ghost use Rattle.layout.specs.Bytes.{put};
+ghost use Rattle.layout.specs.Head.{headBytes, headTests, imageLength};
 
 pub const LENGTH: usize = 10;
 

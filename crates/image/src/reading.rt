@@ -1,8 +1,8 @@
 // The table and the desk that bytes give: one loop for each kind of record.
-use codec::numbers::get_count;
-use codec::records::get_entry;
-use codec::records::get_message;
-use codec::records::get_purse;
+use crate::numbers::get_count;
+use crate::records::get_entry;
+use crate::records::get_message;
+use crate::records::get_purse;
 use desk::Archive;
 use desk::Desk;
 use desk::Entry;
@@ -18,10 +18,10 @@ ghost use Rattle.purse.specs.Details.{zeroMessage};
 ghost use Rattle.purse.specs.Purse.{zeroPurse};
 ghost use Rattle.purse.specs.Tests.{first};
 ghost use Rattle.desk.specs.Desk.{zeroEntry};
-ghost use Rattle.codec.specs.Bytes.{many};
-ghost use Rattle.codec.specs.Records.{purseAt, messageAt, entryAt};
-ghost use Rattle.image.specs.Head.{headTests};
-ghost use Rattle.image.specs.Image.{benchIn};
+ghost use Rattle.layout.specs.Bytes.{many};
+ghost use Rattle.layout.specs.Records.{purseAt, messageAt, entryAt};
+ghost use Rattle.layout.specs.Head.{headTests};
+ghost use Rattle.layout.specs.Image.{benchIn};
 
 pub fn get_purses(s: &[u8], at: usize, count: u8) -> [Purse; 32]
     requires { ⌜ (count ≤ 32) × (at + 136 * count ≤ length (now s)) ⌝ }

@@ -1,8 +1,8 @@
 // The table and the desk as bytes: one loop for each kind of record.
 use crate::head::put_head;
-use codec::records::put_entry;
-use codec::records::put_message;
-use codec::records::put_purse;
+use crate::records::put_entry;
+use crate::records::put_message;
+use crate::records::put_purse;
 use desk::Archive;
 use desk::Desk;
 use desk::Ether;
@@ -12,10 +12,10 @@ ghost use mathlib.Core.Path.{_≡_};
 ghost use mathlib.Core.Bool.{true};
 ghost use Prim.Native.Nat.{_+_, _*_, _≤_};
 ghost use lib.ListN.{length, take};
-ghost use Rattle.codec.specs.Bytes.{put, flat};
-ghost use Rattle.codec.specs.Records.{purseBytes, messageBytes, entryBytes};
+ghost use Rattle.layout.specs.Bytes.{put, flat};
+ghost use Rattle.layout.specs.Records.{purseBytes, messageBytes, entryBytes};
 ghost use Rattle.rules.specs.Laid.{heldOk};
-ghost use Rattle.image.specs.Image.{imageOf};
+ghost use Rattle.layout.specs.Image.{imageOf};
 
 pub fn put_purses(out: &mut [u8], at: usize, table: [Purse; 32], count: u8) -> usize
     requires { ⌜ (count ≤ 32) × (at + 136 * count ≤ length (now out)) ⌝ }

@@ -1,69 +1,50 @@
 use mathlib.Core.Path.{_∙_}
 use lib.ListN.{length}
 use borrow.Author.Tests.{lt-ltb, le-ltb}
-use Rattle.image.proofs.Heads.{later}
+use Rattle.layout.proofs.Heads.{later}
 use borrow.Author.Needs.{needs}
 use Rattle.image.proofs.head.head_number.Statement.{statement}
 use Rattle.image.proofs.head.head_number.Tie as tie
-use Rattle.image.proofs.head.head_number.Reads as reads
-use Rattle.image.proofs.head.head_number.Lts as lts
-use Rattle.codec.proofs.numbers.get_count.Reads as get-count-reads
-use Rattle.image.proofs.head.image_length.Reads as image-length-reads
-use Rattle.purse.proofs.tested.Reads as tested-reads
 
--- src/head.rt:41:9
 returns : tie.Need-returns
 returns c = simp (lt-ltb _ _ (c .if1 .taken))
 
--- src/head.rt:43:17
 shared-slice-read-mark : tie.Need-shared-slice-read-mark
 shared-slice-read-mark c = search needs
 
--- src/head.rt:43:34
 shared-slice-read-mark-2 : tie.Need-shared-slice-read-mark-2
 shared-slice-read-mark-2 c = search needs
 
--- src/head.rt:43:51
 shared-slice-read-mark-3 : tie.Need-shared-slice-read-mark-3
 shared-slice-read-mark-3 c = search needs
 
--- src/head.rt:44:9
 get-count-requires : tie.Need-get-count-requires
 get-count-requires c κs = search needs
 
--- src/head.rt:45:18
 shared-slice-read-purses : tie.Need-shared-slice-read-purses
 shared-slice-read-purses c = search needs
 
--- src/head.rt:46:9
 get-count-requires-2 : tie.Need-get-count-requires-2
 get-count-requires-2 c κs = search needs
 
--- src/head.rt:47:9
 get-count-requires-3 : tie.Need-get-count-requires-3
 get-count-requires-3 c κs = search needs
 
--- src/head.rt:49:9
 image-length-requires : tie.Need-image-length-requires
 image-length-requires c κs = search needs
 
--- src/head.rt:50:9
 tested-requires : tie.Need-tested-requires
 tested-requires c κs = search needs
 
--- src/head.rt:51:9
 tested-requires-2 : tie.Need-tested-requires-2
 tested-requires-2 c κs = search needs
 
--- src/head.rt:52:9
 tested-requires-3 : tie.Need-tested-requires-3
 tested-requires-3 c κs = search needs
 
--- src/head.rt:53:5
 tested-requires-4 : tie.Need-tested-requires-4
 tested-requires-4 c κs = search needs
 
--- src/head.rt:36:1
 returns-2 : tie.Need-returns-2
 returns-2 c =
     let n1 = c .before .before .before in

@@ -1,48 +1,35 @@
 use native.Mathlib.Omega.{arith}
-use Rattle.codec.specs.Bytes.{big}
-use Rattle.codec.proofs.Puts.{then-put}
-use Rattle.image.specs.Head.{headBytes}
+use Rattle.layout.specs.Bytes.{big}
+use Rattle.image.proofs.Puts.{then-put}
+use Rattle.layout.specs.Head.{headBytes}
 use borrow.Author.Needs.{needs}
 use Rattle.image.proofs.head.put_head.Statement.{statement}
 use Rattle.image.proofs.head.put_head.Tie as tie
-use Rattle.image.proofs.head.put_head.Reads as reads
-use Rattle.image.proofs.head.put_head.Lts as lts
-use Rattle.codec.proofs.numbers.put_byte.Reads as put-byte-reads
-use Rattle.codec.proofs.numbers.put_count.Reads as put-count-reads
 
--- src/head.rt:26:9
 put-byte-requires : tie.Need-put-byte-requires
 put-byte-requires c κs = search needs
 
--- src/head.rt:27:9
 put-byte-requires-2 : tie.Need-put-byte-requires-2
 put-byte-requires-2 c κs = search needs
 
--- src/head.rt:28:9
 put-byte-requires-3 : tie.Need-put-byte-requires-3
 put-byte-requires-3 c κs = search needs
 
--- src/head.rt:29:9
 put-count-requires : tie.Need-put-count-requires
 put-count-requires c κs = search needs
 
--- src/head.rt:30:9
 put-byte-requires-4 : tie.Need-put-byte-requires-4
 put-byte-requires-4 c κs = search needs
 
--- src/head.rt:31:9
 put-count-requires-2 : tie.Need-put-count-requires-2
 put-count-requires-2 c κs = search needs
 
--- src/head.rt:32:5
 put-count-requires-3 : tie.Need-put-count-requires-3
 put-count-requires-3 c κs = search needs
 
--- src/head.rt:22:1
 same-length : tie.Need-same-length
 same-length c = search needs
 
--- src/head.rt:22:1
 returns : tie.Need-returns
 unfolding headBytes big
 returns c =

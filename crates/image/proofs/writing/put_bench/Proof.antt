@@ -2,21 +2,14 @@ use mathlib.Core.Path.{_∙_}
 use mathlib.Core.List.{append-assoc}
 use lib.ListN.{length-append}
 use native.Mathlib.Omega.{arith}
-use Rattle.codec.specs.Bytes.{big}
-use Rattle.codec.proofs.Puts.{then-put}
-use Rattle.image.specs.Head.{headBytes}
-use Rattle.image.proofs.Stands.{held-length, held-counts, held-image}
+use Rattle.layout.specs.Bytes.{big}
+use Rattle.image.proofs.Puts.{then-put}
+use Rattle.layout.specs.Head.{headBytes}
+use Rattle.layout.proofs.Stands.{held-length, held-counts, held-image}
 use borrow.Author.Needs.{needs}
 use Rattle.image.proofs.writing.put_bench.Statement.{statement}
 use Rattle.image.proofs.writing.put_bench.Tie as tie
-use Rattle.image.proofs.writing.put_bench.Reads as reads
-use Rattle.image.proofs.writing.put_bench.Lts as lts
-use Rattle.image.proofs.head.put_head.Reads as put-head-reads
-use Rattle.image.proofs.writing.put_entries.Reads as put-entries-reads
-use Rattle.image.proofs.writing.put_messages.Reads as put-messages-reads
-use Rattle.image.proofs.writing.put_purses.Reads as put-purses-reads
 
--- src/writing.rt:72:9
 put-head-requires : tie.Need-put-head-requires
 put-head-requires c κs =
     let start = c .before .before .before .before .before .before in
@@ -24,7 +17,6 @@ put-head-requires c κs =
     let counts = held-counts (start .args .held) (start .pre .0) in
     search needs
 
--- src/writing.rt:73:9
 put-purses-requires : tie.Need-put-purses-requires
 put-purses-requires c κs =
     let start = c .before .before .before .before .before .before .before .before .before .before in
@@ -32,7 +24,6 @@ put-purses-requires c κs =
     let counts = held-counts (start .args .held) (start .pre .0) in
     search needs
 
--- src/writing.rt:74:9
 put-messages-requires : tie.Need-put-messages-requires
 put-messages-requires c κs =
     let start = c .before .before .before .before .before .before .before .before .before .before .before .before .before .before in
@@ -40,7 +31,6 @@ put-messages-requires c κs =
     let counts = held-counts (start .args .held) (start .pre .0) in
     search needs
 
--- src/writing.rt:75:5
 put-entries-requires : tie.Need-put-entries-requires
 put-entries-requires c κs =
     let start = c .before .before .before .before .before .before .before .before .before .before .before .before .before .before .before .before .before .before in
@@ -48,11 +38,9 @@ put-entries-requires c κs =
     let counts = held-counts (start .args .held) (start .pre .0) in
     search needs
 
--- src/writing.rt:64:1
 same-length : tie.Need-same-length
 same-length c = search needs
 
--- src/writing.rt:64:1
 returns : tie.Need-returns
 unfolding headBytes big
 returns c =

@@ -1,18 +1,13 @@
 use Prim.Native.Nat.{_≤_, _-_}
 use mathlib.Core.Path.{_≡_}
-use lib.ListN.{length, length-map}
+use lib.ListN.{length}
 use native.Mathlib.Omega.{arith}
-use Rattle.purse.specs.Details.{zeroMessage}
-use Rattle.desk.specs.Desk.{zeroEntry}
-use Rattle.codec.specs.Records.{purseBytes}
-use Rattle.codec.proofs.Puts.{Wrote, wrote-none, wrote-more, wrote-all}
+use Rattle.layout.specs.Records.{purseBytes}
+use Rattle.image.proofs.Puts.{Wrote, wrote-none, wrote-more, wrote-all}
 use Rattle.image.proofs.Past.{pastPurse}
 use borrow.Author.Needs.{needs}
 use Rattle.image.proofs.writing.put_purses.Statement.{statement}
 use Rattle.image.proofs.writing.put_purses.Tie as tie
-use Rattle.image.proofs.writing.put_purses.Reads as reads
-use Rattle.image.proofs.writing.put_purses.Lts as lts
-use Rattle.codec.proofs.records.put_purse.Reads as put-purse-reads
 
 abbrev Inv-loop : tie.InvT-loop
 Inv-loop out₀ at count table n i₀ to₀ out i to =
@@ -21,31 +16,24 @@ Inv-loop out₀ at count table n i₀ to₀ out i to =
 abbrev μ-loop : tie.MeasureT-loop
 μ-loop out₀ at count table n i₀ to₀ out i to = n - i
 
--- src/writing.rt:25:5
 loop-holds : tie.Need-loop-holds Inv-loop μ-loop
 loop-holds c = (omega arith, wrote-none _ _ _ _ _)
 
--- src/writing.rt:26:17
 mul-p : tie.Need-mul-p Inv-loop μ-loop
 mul-p c = search needs
 
--- src/writing.rt:26:17
 array-copy-out-p : tie.Need-array-copy-out-p Inv-loop μ-loop
 array-copy-out-p c = search needs
 
--- src/writing.rt:27:9
 put-purse-requires : tie.Need-put-purse-requires Inv-loop μ-loop
 put-purse-requires c κs = search needs
 
--- src/writing.rt:28:9
 add-i : tie.Need-add-i Inv-loop μ-loop
 add-i c = search needs
 
--- src/writing.rt:25:5
 loop-less : tie.Need-loop-less Inv-loop μ-loop
 loop-less c = search needs
 
--- src/writing.rt:25:5
 loop-again : tie.Need-loop-again Inv-loop μ-loop
 loop-again c =
     let called = c .before .before in
@@ -59,11 +47,9 @@ loop-again c =
           (called .put-purse .ensures .2) (called .put-purse .ensures .1) (called .put-purse .ensures .0),
     )
 
--- src/writing.rt:18:1
 same-length : tie.Need-same-length Inv-loop μ-loop
 same-length c = search needs
 
--- src/writing.rt:18:1
 returns : tie.Need-returns Inv-loop μ-loop
 returns c =
     let at-loop = c .before in

@@ -1,4 +1,0 @@
-pub mod Puts
-pub mod Gets
-pub mod Coded
-pub mod Trips

@@ -1,0 +1,17 @@
+-- "Two results that both satisfy it are proved equal": a contract that is an equation leaves one result, and one content of the buffer.
+-- Assumes nothing.
+use Prim.Native.Nat.{ℕ}
+use mathlib.Core.Path.{_≡_}
+use mathlib.Core.List.{List}
+use Rattle.purse.proofs.Unique.{one}
+use Rattle.desk.specs.declared.Held.{Held}
+use Rattle.desk.specs.declared.Answered.{Answered}
+use Rattle.layout.specs.declared.Written.{Written}
+use Rattle.layout.specs.Calls.{heldRead, heldWrite, heldBuffer}
+
+pub read-one : (h : Held) (l : List ℕ) (r s : Answered) → r ≡ heldRead h l → s ≡ heldRead h l → r ≡ s
+read-one h l r s p q = one p q
+
+pub write-one : (h : Held) (out : List ℕ) (r s : Written) (a b : List ℕ) → (r ≡ heldWrite h out) × (a ≡ heldBuffer h out)
+    → (s ≡ heldWrite h out) × (b ≡ heldBuffer h out) → (r ≡ s) × (a ≡ b)
+write-one h out r s a b p q = (one (p .0) (q .0), one (p .1) (q .1))

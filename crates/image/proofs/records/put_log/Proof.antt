@@ -1,0 +1,75 @@
+use Prim.Native.Nat.{_≤_, _-_}
+use mathlib.Core.Path.{_≡_}
+use lib.ListN.{length, take}
+use lib.Seq.{take-all}
+use native.Mathlib.Omega.{arith}
+use Rattle.purse.specs.Details.{zeroDetails}
+use Rattle.layout.specs.Records.{detailsBytes}
+use Rattle.image.proofs.Puts.{Wrote, wrote-none, wrote-more, wrote-all}
+use borrow.Author.Needs.{needs}
+use Rattle.image.proofs.records.put_log.Statement.{statement}
+use Rattle.image.proofs.records.put_log.Tie as tie
+
+abbrev Inv-loop : tie.InvT-loop
+Inv-loop out₀ at log i₀ to₀ out i to = (i ≤ 8) × Wrote detailsBytes 14 out₀ at log out i to
+
+abbrev μ-loop : tie.MeasureT-loop
+μ-loop out₀ at log i₀ to₀ out i to = 8 - i
+
+loop-holds : tie.Need-loop-holds Inv-loop μ-loop
+loop-holds c = (omega arith, wrote-none _ _ _ _ _)
+
+mul-d : tie.Need-mul-d Inv-loop μ-loop
+mul-d c = search needs
+
+array-copy-out-d : tie.Need-array-copy-out-d Inv-loop μ-loop
+array-copy-out-d c = search needs
+
+put-details-requires : tie.Need-put-details-requires Inv-loop μ-loop
+put-details-requires c κs = search needs
+
+add-i : tie.Need-add-i Inv-loop μ-loop
+add-i c = search needs
+
+loop-less : tie.Need-loop-less Inv-loop μ-loop
+loop-less c = search needs
+
+loop-again : tie.Need-loop-again Inv-loop μ-loop
+loop-again c =
+    let called = c .before .before in
+    let at-loop = called .before .before .before .before in
+    let args = at-loop .before .before .args in
+    let log = args .t3 in
+    let long : length log ≡ 8 = search needs in (
+      omega arith,
+      wrote-more detailsBytes 14 (args .out .now) (args .at) log (at-loop .loop .i) zeroDetails (omega arith) (at-loop .loop .inv .1)
+          (called .put-details .ensures .2) (called .put-details .ensures .1) (called .put-details .ensures .0),
+    )
+
+same-length : tie.Need-same-length Inv-loop μ-loop
+same-length c = search needs
+
+returns : tie.Need-returns Inv-loop μ-loop
+returns c =
+    let at-loop = c .before in
+    let args = at-loop .before .before .args in
+    let log = args .t3 in
+    let long : length log ≡ 8 = search needs in
+    let all : take 8 log ≡ log = take-all 8 log (omega arith) in
+    rw all at (wrote-all detailsBytes 14 (args .out .now) (args .at) log 8 (omega arith) (at-loop .loop .inv .1))
+
+pub put-log-spec : {M : Type 1} → statement M
+put-log-spec =
+    tie.close
+    (tie.spec
+    Inv-loop
+    μ-loop
+    loop-holds
+    mul-d
+    array-copy-out-d
+    put-details-requires
+    add-i
+    loop-less
+    loop-again
+    same-length
+    returns)

@@ -1,0 +1,68 @@
+// Numbers as bytes, the highest first.
+ghost use mathlib.Core.Path.{_≡_};
+ghost use Prim.Native.Nat.{_+_, _≤_, _<_};
+ghost use lib.ListN.{length};
+ghost use Rattle.layout.specs.Bytes.{put, byte, big, numberAt};
+
+// One byte.
+pub fn put_byte(out: &mut [u8], at: usize, v: u8) -> usize
+    requires { ⌜ at + 1 ≤ length (now out) ⌝ }
+    ensures { λ r. ⌜ (r ≡ at + 1) × (now (out .exit) ≡ put (now (out .entry)) at (byte v)) ⌝ }
+{
+    out[at] = v;
+    at + 1
+}
+
+// A count in two bytes.
+pub fn put_count(out: &mut [u8], at: usize, v: u16) -> usize
+    requires { ⌜ at + 2 ≤ length (now out) ⌝ }
+    ensures { λ r. ⌜ (r ≡ at + 2) × (now (out .exit) ≡ put (now (out .entry)) at (big 2 v)) ⌝ }
+{
+    out[at] = (v / 256 % 256) as u8;
+    out[at + 1] = (v % 256) as u8;
+    at + 2
+}
+
+// A number in four bytes.
+pub fn put_number(out: &mut [u8], at: usize, v: u32) -> usize
+    requires { ⌜ at + 4 ≤ length (now out) ⌝ }
+    ensures { λ r. ⌜ (r ≡ at + 4) × (now (out .exit) ≡ put (now (out .entry)) at (big 4 v)) ⌝ }
+{
+    out[at] = (v / 256 / 256 / 256 % 256) as u8;
+    out[at + 1] = (v / 256 / 256 % 256) as u8;
+    out[at + 2] = (v / 256 % 256) as u8;
+    out[at + 3] = (v % 256) as u8;
+    at + 4
+}
+
+fn wide(x: u8) -> u32
+    ensures { λ r. ⌜ (r ≡ x) × (r < 256) ⌝ }
+{
+    x as u32
+}
+
+fn wide_count(x: u8) -> u16
+    ensures { λ r. ⌜ (r ≡ x) × (r < 256) ⌝ }
+{
+    x as u16
+}
+
+pub fn get_count(s: &[u8], at: usize) -> u16
+    requires { ⌜ at + 2 ≤ length (now s) ⌝ }
+    ensures { λ r. ⌜ r ≡ numberAt 2 (now (s .entry)) at ⌝ }
+{
+    let a = wide_count(s[at]);
+    let b = wide_count(s[at + 1]);
+    a * 256 + b
+}
+
+pub fn get_number(s: &[u8], at: usize) -> u32
+    requires { ⌜ at + 4 ≤ length (now s) ⌝ }
+    ensures { λ r. ⌜ r ≡ numberAt 4 (now (s .entry)) at ⌝ }
+{
+    let a = wide(s[at]);
+    let b = wide(s[at + 1]);
+    let c = wide(s[at + 2]);
+    let d = wide(s[at + 3]);
+    ((a * 256 + b) * 256 + c) * 256 + d
+}

@@ -1,0 +1,8 @@
+pub mod Examples
+pub mod Coded
+pub mod Records
+pub mod Firsts
+pub mod Heads
+pub mod Whole
+pub mod Stands
+pub mod Trips

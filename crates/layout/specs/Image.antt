@@ -1,0 +1,40 @@
+-- A whole bench as bytes, and the bench that bytes give: document 01, "Stored image".
+use Prim.Native.Nat.{ℕ, _+_, _*_}
+use mathlib.Core.List.{List, _++_}
+use lib.ListN.{length}
+use Rattle.layout.specs.Bytes.{flat, many}
+use Rattle.layout.specs.Fits.{All, FitPurse, FitMessage, FitEntry}
+use Rattle.layout.specs.Records.{purseBytes, purseAt, messageBytes, messageAt, entryBytes, entryAt}
+use Rattle.desk.specs.declared.Held.{Held}
+use Rattle.rules.specs.Bench.{Bench}
+use Rattle.rules.specs.Laid.{laid, seen}
+use Rattle.layout.specs.Head.{headBytes, pursesIn, messagesIn, entriesIn}
+
+-- the head; "Then per purse 136 bytes"; "Then 15 bytes a message"; "Then 15 bytes an archive entry"
+unfoldable pub benchBytes : Bench → List ℕ
+benchBytes b =
+    headBytes (length (b .purses)) (length (b .messages)) (length (b .archive))
+    ++ (flat purseBytes (b .purses) ++ (flat messageBytes (b .messages) ++ flat entryBytes (b .archive)))
+
+-- the image of what a bench holds
+unfoldable pub imageOf : Held → List ℕ
+imageOf h = benchBytes (seen h)
+
+-- the three lists that an image gives
+unfoldable pub listsIn : List ℕ → Bench
+listsIn l =
+    record {
+      purses = many purseAt 136 (pursesIn l) l 10;
+      messages = many messageAt 15 (messagesIn l) l (10 + 136 * pursesIn l);
+      archive = many entryAt 15 (entriesIn l) l (10 + 136 * pursesIn l + 15 * messagesIn l);
+    }
+
+-- and how they lie in the table and the desk: everything unused is zero
+unfoldable pub benchIn : List ℕ → Held
+benchIn l = laid (listsIn l)
+
+-- what the declared types say of a bench's numbers: each fits its four bytes
+pub record Fits (b : Bench) : Type 0 where
+  pub purses : All FitPurse (b .purses)
+  pub messages : All FitMessage (b .messages)
+  pub archive : All FitEntry (b .archive)

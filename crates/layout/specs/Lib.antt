@@ -1,0 +1,6 @@
+pub mod Bytes
+pub mod Fits
+pub mod Records
+pub mod Head
+pub mod Image
+pub mod Calls
