@@ -14,8 +14,8 @@ use borrow.Author.Tests.{lt-leb, le-leb, leb-true, leb-false}
 use lib.Seq.{take-all, set-append-seam, append-snoc}
 use Rattle.purse.proofs.Bools.{which}
 use Rattle.purse.specs.Lists.{padded}
-use Rattle.codec.specs.Bytes.{numberAt}
-use Rattle.codec.proofs.Gets.{length-many}
+use Rattle.layout.specs.Bytes.{numberAt}
+use Rattle.layout.proofs.Coded.{length-many}
 use Rattle.listing.specs.declared.Opening.{Opening}
 use Rattle.listing.specs.Opening.{balancesAt, wholeOpening, balancesIn, openingIn}
 

@@ -5,7 +5,7 @@ use mathlib.Core.List.{List, [], _∷_}
 use lib.ListN.{length, getD}
 use lib.Dec.{leb}
 use Rattle.purse.specs.Lists.{padded}
-use Rattle.codec.specs.Bytes.{numberAt, many}
+use Rattle.layout.specs.Bytes.{numberAt, many}
 use Rattle.listing.specs.declared.Opening.{Opening}
 
 -- n balances of four bytes, one after the other

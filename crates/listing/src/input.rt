@@ -1,6 +1,6 @@
 // The input's opening bytes: purse count, then 4 bytes a balance.
 use crate::Opening;
-use codec::numbers::get_number;
+use crate::numbers::get_number;
 ghost use mathlib.Core.Path.{_≡_};
 ghost use Prim.Native.Nat.{_+_, _*_, _≤_, _<_};
 ghost use lib.ListN.{length};

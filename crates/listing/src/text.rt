@@ -1,5 +1,5 @@
 // Text and decimal numbers put into a buffer from a place on; each answers the place behind what it put.
-use codec::numbers::put_byte;
+use crate::numbers::put_byte;
 ghost use mathlib.Core.Path.{_≡_};
 ghost use Prim.Native.Nat.{_+_, _≤_, _<_};
 ghost use mathlib.Core.List.{_++_};

@@ -2,14 +2,15 @@ use Prim.Native.Nat.{ℕ, _≤_, _<_, _-_, _+_, _*_}
 use native.Mathlib.Omega.{arith}
 use mathlib.Core.Path.{_≡_, refl}
 use lib.ListN.{length, length-set}
-use Rattle.codec.specs.Bytes.{numberAt}
-use Rattle.codec.proofs.Gets.{Filled, filled-none, filled-more, filled-all, length-many}
+use Rattle.layout.specs.Bytes.{numberAt}
+use Rattle.layout.proofs.Coded.{length-many}
+use Rattle.image.proofs.Gets.{Filled, filled-none, filled-more, filled-all}
 use borrow.Author.Needs.{needs}
 use Rattle.listing.proofs.input.balances.Statement.{statement}
 use Rattle.listing.proofs.input.balances.Tie as tie
 use Rattle.listing.proofs.input.balances.Reads as reads
 use Rattle.listing.proofs.input.balances.Lts as lts
-use Rattle.codec.proofs.numbers.get_number.Reads as get-number-reads
+use Rattle.listing.proofs.numbers.get_number.Reads as get-number-reads
 
 abbrev Inv-loop : tie.InvT-loop
 Inv-loop l count all₀ i₀ from₀ all i from =

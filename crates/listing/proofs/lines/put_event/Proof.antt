@@ -5,7 +5,7 @@ use Rattle.listing.proofs.lines.put_event.Statement.{statement}
 use Rattle.listing.proofs.lines.put_event.Tie as tie
 use Rattle.listing.proofs.lines.put_event.Reads as reads
 use Rattle.listing.proofs.lines.put_event.Lts as lts
-use Rattle.codec.proofs.numbers.put_byte.Reads as put-byte-reads
+use Rattle.listing.proofs.numbers.put_byte.Reads as put-byte-reads
 use Rattle.listing.proofs.text.put_field.Reads as put-field-reads
 use Rattle.listing.proofs.text.put_number.Reads as put-number-reads
 

@@ -6,7 +6,7 @@ use Rattle.listing.proofs.lines.refused.Statement.{statement}
 use Rattle.listing.proofs.lines.refused.Tie as tie
 use Rattle.listing.proofs.lines.refused.Reads as reads
 use Rattle.listing.proofs.lines.refused.Lts as lts
-use Rattle.codec.proofs.numbers.put_byte.Reads as put-byte-reads
+use Rattle.listing.proofs.numbers.put_byte.Reads as put-byte-reads
 use Rattle.listing.proofs.text.put_named.Reads as put-named-reads
 
 -- src/lines.rt:29:9

@@ -6,7 +6,7 @@ use Rattle.listing.proofs.purses.put_last.Statement.{statement}
 use Rattle.listing.proofs.purses.put_last.Tie as tie
 use Rattle.listing.proofs.purses.put_last.Reads as reads
 use Rattle.listing.proofs.purses.put_last.Lts as lts
-use Rattle.codec.proofs.numbers.put_byte.Reads as put-byte-reads
+use Rattle.listing.proofs.numbers.put_byte.Reads as put-byte-reads
 use Rattle.listing.proofs.text.put_named.Reads as put-named-reads
 
 -- src/foot.rt:44:33

@@ -7,7 +7,7 @@ use Rattle.listing.proofs.purses.put_purse.Statement.{statement}
 use Rattle.listing.proofs.purses.put_purse.Tie as tie
 use Rattle.listing.proofs.purses.put_purse.Reads as reads
 use Rattle.listing.proofs.purses.put_purse.Lts as lts
-use Rattle.codec.proofs.numbers.put_byte.Reads as put-byte-reads
+use Rattle.listing.proofs.numbers.put_byte.Reads as put-byte-reads
 use Rattle.listing.proofs.text.put_named.Reads as put-named-reads
 use Rattle.listing.proofs.text.put_two.Reads as put-two-reads
 

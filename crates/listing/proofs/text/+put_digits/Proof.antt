@@ -11,7 +11,7 @@ use Rattle.listing.proofs.text.put_digits.Reads as put-digits
 use Rattle.listing.proofs.text.put_digits.Kinds as put-digits-kinds
 use Rattle.listing.proofs.text.+put_digits.Lts-put_digits as put-digits-lts
 use Rattle.listing.proofs.text.digit.Reads as digit-reads
-use Rattle.codec.proofs.numbers.put_byte.Reads as put-byte-reads
+use Rattle.listing.proofs.numbers.put_byte.Reads as put-byte-reads
 use Rattle.listing.proofs.text.+put_digits.{statement}
 use Rattle.listing.proofs.text.+put_digits.Tie.{close}
 

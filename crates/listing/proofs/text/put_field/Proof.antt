@@ -4,7 +4,7 @@ use Rattle.listing.proofs.text.put_field.Statement.{statement}
 use Rattle.listing.proofs.text.put_field.Tie as tie
 use Rattle.listing.proofs.text.put_field.Reads as reads
 use Rattle.listing.proofs.text.put_field.Lts as lts
-use Rattle.codec.proofs.numbers.put_byte.Reads as put-byte-reads
+use Rattle.listing.proofs.numbers.put_byte.Reads as put-byte-reads
 use Rattle.listing.proofs.text.put_number.Reads as put-number-reads
 
 -- src/text.rt:70:9
