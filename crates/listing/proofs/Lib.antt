@@ -1,4 +1,4 @@
 pub mod Puts
 pub mod Digits
-pub mod Numbers
+pub mod Opened
 pub mod Cuts

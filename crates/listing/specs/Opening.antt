@@ -1,7 +1,7 @@
 -- "Standard input: purse count, 4 bytes a balance, then events. Too few opening bytes count as 20."
 use Prim.Native.Nat.{ℕ, _+_, _*_}
 use mathlib.Core.Bool.{Bool, _&&_, cond}
-use mathlib.Core.List.{List, [], _∷_}
+use mathlib.Core.List.{List, []}
 use lib.ListN.{length, getD}
 use lib.Dec.{leb}
 use Rattle.purse.specs.Lists.{padded}

@@ -1,9 +1,9 @@
 // The listing's lines.
+use crate::numbers::put_byte;
 use crate::text::put_field;
 use crate::text::put_named;
 use crate::text::put_number;
 use crate::text::put_text;
-use crate::numbers::put_byte;
 ghost use mathlib.Core.Path.{_≡_};
 ghost use Prim.Native.Nat.{_+_, _≤_, _<_};
 ghost use lib.ListN.{length};

@@ -1,7 +1,7 @@
 // The listing's foot: a line for each purse, and the last line with the counts and the claims figure.
+use crate::numbers::put_byte;
 use crate::text::put_named;
 use crate::text::put_two;
-use crate::numbers::put_byte;
 use desk::Held;
 use purse::Purse;
 ghost use mathlib.Core.Path.{_≡_};

@@ -4,68 +4,49 @@ use lib.Seq.{length-take-le}
 use borrow.Author.Needs.{needs}
 use Rattle.stream.proofs.read_opening.Statement.{statement}
 use Rattle.stream.proofs.read_opening.Tie as tie
-use Rattle.stream.proofs.read_opening.Reads as reads
-use Rattle.stream.proofs.read_opening.Lts as lts
-use Rattle.io.proofs.read_full.Reads as read-full-reads
-use Rattle.listing.proofs.balance_bytes.Reads as balance-bytes-reads
 
--- src/lib.rt:32:35
 slice-relend-prefix-read-full : tie.Need-slice-relend-prefix-read-full
 slice-relend-prefix-read-full c = search needs
 
--- src/lib.rt:32:35
 slice-aggregate-read-full : tie.Need-slice-aggregate-read-full
 slice-aggregate-read-full c = sym (length-take-le 1 (c .before .before .args .bytes .now) (omega (arith, c .before .before .pre)))
 
--- src/lib.rt:32:9
 read-full-requires : tie.Need-read-full-requires
 read-full-requires c κs = search needs
 
--- src/lib.rt:34:9
 same-length : tie.Need-same-length
 same-length c = search needs
 
--- src/lib.rt:34:9
 returns : tie.Need-returns
 returns c = search needs
 
--- src/lib.rt:36:42
 slice-read-balance-bytes : tie.Need-slice-read-balance-bytes
 slice-read-balance-bytes c = search needs
 
--- src/lib.rt:36:19
 balance-bytes-requires : tie.Need-balance-bytes-requires
 balance-bytes-requires c κs = search needs
 
--- src/lib.rt:36:15
 add-end : tie.Need-add-end
 add-end c = search needs
 
--- src/lib.rt:37:36
 sub-read-full : tie.Need-sub-read-full
 sub-read-full c = search needs
 
--- src/lib.rt:37:36
 part-read-full-start : tie.Need-part-read-full-start
 part-read-full-start c = search needs
 
--- src/lib.rt:37:36
 part-read-full-end : tie.Need-part-read-full-end
 part-read-full-end c = search needs
 
--- src/lib.rt:37:9
 read-full-requires-2 : tie.Need-read-full-requires-2
 read-full-requires-2 c κs = search needs
 
--- src/lib.rt:38:5
 add-result : tie.Need-add-result
 add-result c = search needs
 
--- src/lib.rt:28:1
 same-length-2 : tie.Need-same-length-2
 same-length-2 c = search needs
 
--- src/lib.rt:28:1
 returns-2 : tie.Need-returns-2
 returns-2 c = search needs
 

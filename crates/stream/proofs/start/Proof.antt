@@ -3,37 +3,25 @@ use lib.Seq.{length-take-le}
 use borrow.Author.Needs.{needs}
 use Rattle.stream.proofs.start.Statement.{statement}
 use Rattle.stream.proofs.start.Tie as tie
-use Rattle.stream.proofs.start.Reads as reads
-use Rattle.stream.proofs.start.Lts as lts
-use Rattle.listing.proofs.read_opening.Reads as input-read-opening-reads
-use Rattle.stream.proofs.open.Reads as open-reads
-use Rattle.stream.proofs.read_opening.Reads as read-opening-reads
 
--- src/lib.rt:111:34
 slice-aggregate-read-opening : tie.Need-slice-aggregate-read-opening
 slice-aggregate-read-opening c = search needs
 
--- src/lib.rt:111:9
 read-opening-requires : tie.Need-read-opening-requires
 read-opening-requires c κs = search needs
 
--- src/lib.rt:112:41
 array-share-prefix-bytes : tie.Need-array-share-prefix-bytes
 array-share-prefix-bytes c = search needs
 
--- src/lib.rt:112:41
 slice-aggregate-read-opening-2 : tie.Need-slice-aggregate-read-opening-2
 slice-aggregate-read-opening-2 c = sym (length-take-le _ _ (search needs))
 
--- src/lib.rt:112:9
 read-opening-requires-2 : tie.Need-read-opening-requires-2
 read-opening-requires-2 c κs = search needs
 
--- src/lib.rt:114:5
 open-requires : tie.Need-open-requires
 open-requires c κs = search needs
 
--- src/lib.rt:109:1
 returns : tie.Need-returns
 returns c = search needs
 

@@ -1,4 +1,4 @@
-use Prim.Native.Nat.{ℕ, _≤_, _<_, _-_, _+_, _*_}
+use Prim.Native.Nat.{_≤_, _<_, _-_, _+_, _*_}
 use native.Mathlib.Omega.{arith}
 use mathlib.Core.Path.{_≡_, refl}
 use lib.ListN.{length, length-set}
@@ -8,9 +8,6 @@ use Rattle.image.proofs.Gets.{Filled, filled-none, filled-more, filled-all}
 use borrow.Author.Needs.{needs}
 use Rattle.listing.proofs.input.balances.Statement.{statement}
 use Rattle.listing.proofs.input.balances.Tie as tie
-use Rattle.listing.proofs.input.balances.Reads as reads
-use Rattle.listing.proofs.input.balances.Lts as lts
-use Rattle.listing.proofs.numbers.get_number.Reads as get-number-reads
 
 abbrev Inv-loop : tie.InvT-loop
 Inv-loop l count all₀ i₀ from₀ all i from =
@@ -19,35 +16,27 @@ Inv-loop l count all₀ i₀ from₀ all i from =
 abbrev μ-loop : tie.MeasureT-loop
 μ-loop l count all₀ i₀ from₀ all i from = count - i
 
--- src/input.rt:25:5
 loop-holds : tie.Need-loop-holds Inv-loop μ-loop
 loop-holds c = (omega arith, omega arith, filled-none (numberAt 4) 4 _ 1 32 0 refl, refl)
 
--- src/input.rt:26:18
 get-number-requires : tie.Need-get-number-requires Inv-loop μ-loop
 get-number-requires c κs = search needs
 
--- src/input.rt:26:9
 mul-all : tie.Need-mul-all Inv-loop μ-loop
 mul-all c = search needs
 
--- src/input.rt:26:9
 array-write-all : tie.Need-array-write-all Inv-loop μ-loop
 array-write-all c = search needs
 
--- src/input.rt:27:9
 add-from : tie.Need-add-from Inv-loop μ-loop
 add-from c = search needs
 
--- src/input.rt:28:9
 add-i : tie.Need-add-i Inv-loop μ-loop
 add-i c = search needs
 
--- src/input.rt:25:5
 loop-less : tie.Need-loop-less Inv-loop μ-loop
 loop-less c = search needs
 
--- src/input.rt:25:5
 loop-again : tie.Need-loop-again Inv-loop μ-loop
 loop-again c =
     let at-loop = c .before .before in
@@ -61,7 +50,6 @@ loop-again c =
       simp length-set (inv .3),
     )
 
--- src/input.rt:18:1
 returns : tie.Need-returns Inv-loop μ-loop
 returns c =
     let at-loop = c .before in

@@ -1,44 +1,32 @@
-use Rattle.listing.proofs.Numbers.{nothing-there, too-many, too-few, all-there}
+use Rattle.listing.proofs.Opened.{nothing-there, too-many, too-few, all-there}
 use borrow.Author.Needs.{needs}
 use Rattle.listing.proofs.input.read_opening.Statement.{statement}
 use Rattle.listing.proofs.input.read_opening.Tie as tie
-use Rattle.listing.proofs.input.read_opening.Reads as reads
-use Rattle.listing.proofs.input.read_opening.Lts as lts
-use Rattle.listing.proofs.input.balances.Reads as balances-reads
 
--- src/input.rt:59:9
 returns : tie.Need-returns
 returns c = (nothing-there (c .before .before .args .input .now) (c .if1 .taken), search needs)
 
--- src/input.rt:64:17
 shared-slice-read-count : tie.Need-shared-slice-read-count
 shared-slice-read-count c = search needs
 
--- src/input.rt:66:9
 returns-2 : tie.Need-returns-2
 returns-2 c = (too-many (c .before .before .before .before .args .input .now) (c .if2 .taken), search needs)
 
--- src/input.rt:71:13
 cast-n : tie.Need-cast-n
 cast-n c = search needs
 
--- src/input.rt:72:26
 mul-if3 : tie.Need-mul-if3
 mul-if3 c = search needs
 
--- src/input.rt:72:22
 add-if3 : tie.Need-add-if3
 add-if3 c = search needs
 
--- src/input.rt:73:9
 returns-3 : tie.Need-returns-3
 returns-3 c = (too-few (c .before .before .before .before .before .args .input .now) (c .before .if2 .left) (c .if3 .taken), search needs)
 
--- src/input.rt:78:9
 balances-requires : tie.Need-balances-requires
 balances-requires c κs = search needs
 
--- src/input.rt:55:1
 returns-4 : tie.Need-returns-4
 returns-4 c =
     (rw (c .balances .ensures) (all-there (c .before .before .before .before .before .before .args .input .now) (c .before .before .if2 .left) (c .before .if3 .left)), search needs)

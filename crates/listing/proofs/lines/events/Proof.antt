@@ -13,9 +13,6 @@ use Rattle.listing.proofs.Puts.{put-nothing, line-more, same-bytes, fil
 use borrow.Author.Needs.{needs}
 use Rattle.listing.proofs.lines.events.Statement.{statement}
 use Rattle.listing.proofs.lines.events.Tie as tie
-use Rattle.listing.proofs.lines.events.Reads as reads
-use Rattle.listing.proofs.lines.events.Lts as lts
-use Rattle.listing.proofs.lines.put_event.Reads as put-event-reads
 
 module _ (first : ℕ) (answers l : List ℕ) where
   too-short : length l < length answers * 42 → linesFit first answers l ≡ false
@@ -38,44 +35,35 @@ Inv-loop out₀ first answers i₀ event₀ to₀ out i event to =
 abbrev μ-loop : tie.MeasureT-loop
 μ-loop out₀ first answers i₀ event₀ to₀ out i event to = length answers - i
 
--- src/lines.rt:47:9
 returns : tie.Need-returns Inv-loop μ-loop
 returns c =
     let args = c .before .before .before .args in
     (not-filled _ _ (too-short (args .first) (args .answers .now) (args .out .now) (omega arith)), search needs)
 
--- src/lines.rt:50:9
 returns-2 : tie.Need-returns-2 Inv-loop μ-loop
 returns-2 c =
     let args = c .before .before .before .before .args in
     (not-filled _ _ (too-late (args .first) (args .answers .now) (args .out .now) (omega arith) (c .if2 .taken)), search needs)
 
--- src/lines.rt:55:5
 loop-holds : tie.Need-loop-holds Inv-loop μ-loop
 unfolding numbered
 loop-holds c = (omega arith, omega arith, omega arith, put-nothing _ _, refl)
 
--- src/lines.rt:56:40
 shared-slice-read-put-event : tie.Need-shared-slice-read-put-event Inv-loop μ-loop
 shared-slice-read-put-event c = search needs
 
--- src/lines.rt:56:9
 put-event-requires : tie.Need-put-event-requires Inv-loop μ-loop
 put-event-requires c κs = search needs
 
--- src/lines.rt:57:9
 add-event : tie.Need-add-event Inv-loop μ-loop
 add-event c = search needs
 
--- src/lines.rt:58:9
 add-i : tie.Need-add-i Inv-loop μ-loop
 add-i c = search needs
 
--- src/lines.rt:55:5
 loop-less : tie.Need-loop-less Inv-loop μ-loop
 loop-less c = search needs
 
--- src/lines.rt:55:5
 loop-again : tie.Need-loop-again Inv-loop μ-loop
 loop-again c =
     let called = c .before .before in
@@ -92,11 +80,9 @@ loop-again c =
       called .put-event .kept .0 ∙ inv .4,
     )
 
--- src/lines.rt:43:1
 same-length : tie.Need-same-length Inv-loop μ-loop
 same-length c = search needs
 
--- src/lines.rt:43:1
 returns-3 : tie.Need-returns-3 Inv-loop μ-loop
 returns-3 c =
     let at-loop = c .before in

@@ -3,27 +3,19 @@ use Rattle.listing.proofs.Puts.{filled, not-filled}
 use borrow.Author.Needs.{needs}
 use Rattle.listing.proofs.lines.header.Statement.{statement}
 use Rattle.listing.proofs.lines.header.Tie as tie
-use Rattle.listing.proofs.lines.header.Reads as reads
-use Rattle.listing.proofs.lines.header.Lts as lts
-use Rattle.listing.proofs.text.put_text.Reads as put-text-reads
 
--- src/lines.rt:15:9
 returns : tie.Need-returns
 returns c = (not-filled _ _ (lt-leb _ _ (c .if1 .taken)), search needs)
 
--- src/lines.rt:17:22
 slice-aggregate-put-text : tie.Need-slice-aggregate-put-text
 slice-aggregate-put-text c = search needs
 
--- src/lines.rt:17:5
 put-text-requires : tie.Need-put-text-requires
 put-text-requires c κs = search needs
 
--- src/lines.rt:11:1
 same-length : tie.Need-same-length
 same-length c = search needs
 
--- src/lines.rt:11:1
 returns-2 : tie.Need-returns-2
 returns-2 c =
     let called = c .before .before in

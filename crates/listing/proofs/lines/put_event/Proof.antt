@@ -3,29 +3,19 @@ use Rattle.listing.proofs.Puts.{then, one-byte}
 use borrow.Author.Needs.{needs}
 use Rattle.listing.proofs.lines.put_event.Statement.{statement}
 use Rattle.listing.proofs.lines.put_event.Tie as tie
-use Rattle.listing.proofs.lines.put_event.Reads as reads
-use Rattle.listing.proofs.lines.put_event.Lts as lts
-use Rattle.listing.proofs.numbers.put_byte.Reads as put-byte-reads
-use Rattle.listing.proofs.text.put_field.Reads as put-field-reads
-use Rattle.listing.proofs.text.put_number.Reads as put-number-reads
 
--- src/lines.rt:37:9
 put-number-requires : tie.Need-put-number-requires
 put-number-requires c κs = search needs
 
--- src/lines.rt:38:9
 put-field-requires : tie.Need-put-field-requires
 put-field-requires c κs = search needs
 
--- src/lines.rt:39:5
 put-byte-requires : tie.Need-put-byte-requires
 put-byte-requires c κs = search needs
 
--- src/lines.rt:32:1
 same-length : tie.Need-same-length
 same-length c = search needs
 
--- src/lines.rt:32:1
 returns : tie.Need-returns
 unfolding eventLine
 returns c =

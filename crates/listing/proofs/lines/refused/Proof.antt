@@ -4,32 +4,22 @@ use Rattle.listing.proofs.Puts.{then, one-byte, filled, not-filled}
 use borrow.Author.Needs.{needs}
 use Rattle.listing.proofs.lines.refused.Statement.{statement}
 use Rattle.listing.proofs.lines.refused.Tie as tie
-use Rattle.listing.proofs.lines.refused.Reads as reads
-use Rattle.listing.proofs.lines.refused.Lts as lts
-use Rattle.listing.proofs.numbers.put_byte.Reads as put-byte-reads
-use Rattle.listing.proofs.text.put_named.Reads as put-named-reads
 
--- src/lines.rt:29:9
 returns : tie.Need-returns
 returns c = (not-filled _ _ (lt-leb _ _ (c .if1 .taken)), search needs)
 
--- src/lines.rt:31:32
 slice-aggregate-put-named : tie.Need-slice-aggregate-put-named
 slice-aggregate-put-named c = search needs
 
--- src/lines.rt:31:9
 put-named-requires : tie.Need-put-named-requires
 put-named-requires c κs = search needs
 
--- src/lines.rt:32:5
 put-byte-requires : tie.Need-put-byte-requires
 put-byte-requires c κs = search needs
 
--- src/lines.rt:25:1
 same-length : tie.Need-same-length
 same-length c = search needs
 
--- src/lines.rt:25:1
 returns-2 : tie.Need-returns-2
 unfolding openingLine
 returns-2 c =

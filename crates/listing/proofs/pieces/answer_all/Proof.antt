@@ -11,10 +11,6 @@ use Rattle.listing.proofs.Cuts.{taken-all, few-cut, all-whole, last-cut
 use borrow.Author.Needs.{needs}
 use Rattle.listing.proofs.pieces.answer_all.Statement.{statement}
 use Rattle.listing.proofs.pieces.answer_all.Tie as tie
-use Rattle.listing.proofs.pieces.answer_all.Reads as reads
-use Rattle.listing.proofs.pieces.answer_all.Lts as lts
-use Rattle.bench.proofs.event.Reads as event-reads
-use Rattle.bench.proofs.run.Reads as run-reads
 
 -- the run took every whole event
 all-taken : (c : tie.After-run) → c .run .result .taken ≡ length (c .before .before .before .before .args .input .now) / 12
@@ -26,19 +22,15 @@ all-ran c =
     let start = c .before .before .before .before in
     ran-all (start .args .held) (start .args .input .now) (start .args .answers .now) (start .pre .0) (start .pre .1) (c .run .ensures .0) (c .run .ensures .1) (c .run .ensures .2)
 
--- src/pieces.rt:19:9
 run-requires : tie.Need-run-requires
 run-requires c κs = search needs
 
--- src/pieces.rt:21:14
 mul-at : tie.Need-mul-at
 mul-at c = omega (arith, all-taken (c .before .before))
 
--- src/pieces.rt:23:9
 same-length : tie.Need-same-length
 same-length c = search needs
 
--- src/pieces.rt:23:9
 returns : tie.Need-returns
 returns c =
     let ran = c .before .before .before in
@@ -49,39 +41,31 @@ returns c =
       omega (arith, all-taken ran, ran .before .before .before .before .pre .0),
     )
 
--- src/pieces.rt:26:32
 sub-event : tie.Need-sub-event
 sub-event c = omega (arith, all-taken (c .before .before .before .before))
 
--- src/pieces.rt:26:32
 part-event-start : tie.Need-part-event-start
 part-event-start c = omega (arith, all-taken (c .before .before .before .before))
 
--- src/pieces.rt:26:32
 part-event-end : tie.Need-part-event-end
 part-event-end c = search needs
 
--- src/pieces.rt:26:9
 event-requires : tie.Need-event-requires
 event-requires c κs = search needs
 
--- src/pieces.rt:27:5
 slice-write-answers : tie.Need-slice-write-answers
 slice-write-answers c =
     let ran = c .before .before .before .before .before .before in
     omega (arith, all-taken ran, ran .run .kept .1 .1 .0, ran .before .before .before .before .pre .0, ran .before .before .before .before .pre .1)
 
--- src/pieces.rt:30:16
 add-t12 : tie.Need-add-t12
 add-t12 c =
     let ran = c .before .before .before .before .before .before .before in
     omega (arith, all-taken ran, ran .before .before .before .before .pre .0)
 
--- src/pieces.rt:14:1
 same-length-2 : tie.Need-same-length-2
 same-length-2 c = search needs
 
--- src/pieces.rt:14:1
 returns-2 : tie.Need-returns-2
 returns-2 c =
     let last = c .before in

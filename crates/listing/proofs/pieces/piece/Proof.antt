@@ -9,28 +9,19 @@ use Rattle.listing.proofs.Cuts.{length-answers, not-listed, too-long, t
 use borrow.Author.Needs.{needs}
 use Rattle.listing.proofs.pieces.piece.Statement.{statement}
 use Rattle.listing.proofs.pieces.piece.Tie as tie
-use Rattle.listing.proofs.pieces.piece.Reads as reads
-use Rattle.listing.proofs.pieces.piece.Lts as lts
-use Rattle.listing.proofs.Listed.none.Reads as none-reads
-use Rattle.listing.proofs.lines.events.Reads as events-reads
-use Rattle.listing.proofs.pieces.answer_all.Reads as answer-all-reads
 
--- src/pieces.rt:40:9
 none-requires : tie.Need-none-requires
 none-requires c κs = search needs
 
--- src/pieces.rt:40:9
 returns : tie.Need-returns
 returns c =
     let a = c .before .before .before .before .args in
     let out = a .out .now in
     not-listed (a .held) (a .first) (a .input .now) out (too-long (a .held) (a .first) (a .input .now) out (c .before .if1 .taken)) (c .none .ensures)
 
--- src/pieces.rt:43:9
 none-requires-2 : tie.Need-none-requires-2
 none-requires-2 c κs = search needs
 
--- src/pieces.rt:43:9
 returns-2 : tie.Need-returns-2
 returns-2 c =
     let a = c .before .before .before .before .before .args in
@@ -39,11 +30,9 @@ returns-2 c =
     (too-short (a .held) (a .first) (a .input .now) out (c .before .before .if1 .left) (c .before .if2 .taken))
     (c .none2 .ensures)
 
--- src/pieces.rt:46:9
 none-requires-3 : tie.Need-none-requires-3
 none-requires-3 c κs = search needs
 
--- src/pieces.rt:46:9
 returns-3 : tie.Need-returns-3
 returns-3 c =
     let a = c .before .before .before .before .before .before .args in
@@ -52,33 +41,26 @@ returns-3 c =
     (too-late (a .held) (a .first) (a .input .now) out (c .before .before .before .if1 .left) (c .before .before .if2 .left) (c .before .if3 .taken))
     (c .none3 .ensures)
 
--- src/pieces.rt:49:39
 slice-aggregate-answer-all : tie.Need-slice-aggregate-answer-all
 slice-aggregate-answer-all c = search needs
 
--- src/pieces.rt:49:9
 answer-all-requires : tie.Need-answer-all-requires
 answer-all-requires c κs = search needs
 
--- src/pieces.rt:51:37
 array-share-prefix-answers : tie.Need-array-share-prefix-answers
 array-share-prefix-answers c = search needs
 
--- src/pieces.rt:51:37
 slice-aggregate-events : tie.Need-slice-aggregate-events
 slice-aggregate-events c =
     let all = c .before .before .before .answer-all in
     sym (length-take-le (all .result .taken) (all .last .1 .1 .0) (search needs))
 
--- src/pieces.rt:51:9
 events-requires : tie.Need-events-requires
 events-requires c κs = search needs
 
--- src/pieces.rt:36:1
 same-length : tie.Need-same-length
 same-length c = search needs
 
--- src/pieces.rt:36:1
 returns-4 : tie.Need-returns-4
 returns-4 c =
     let called = c .before .before .before in

@@ -6,28 +6,19 @@ use Rattle.listing.proofs.Puts.{same-bytes, filled, not-filled}
 use borrow.Author.Needs.{needs}
 use Rattle.listing.proofs.purses.foot.Statement.{statement}
 use Rattle.listing.proofs.purses.foot.Tie as tie
-use Rattle.listing.proofs.purses.foot.Reads as reads
-use Rattle.listing.proofs.purses.foot.Lts as lts
-use Rattle.bench.proofs.claims.Reads as claims-reads
-use Rattle.listing.proofs.purses.put_foot.Reads as put-foot-reads
 
--- src/purses.rt:75:9
 returns : tie.Need-returns
 returns c = (not-filled _ _ (lt-leb _ _ (c .if1 .taken)), search needs)
 
--- src/purses.rt:77:9
 claims-requires : tie.Need-claims-requires
 claims-requires c κs = search needs
 
--- src/purses.rt:78:5
 put-foot-requires : tie.Need-put-foot-requires
 put-foot-requires c κs = search needs
 
--- src/purses.rt:71:1
 same-length : tie.Need-same-length
 same-length c = search needs
 
--- src/purses.rt:71:1
 returns-2 : tie.Need-returns-2
 unfolding footOf
 returns-2 c =

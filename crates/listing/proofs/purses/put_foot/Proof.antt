@@ -1,4 +1,4 @@
-use Prim.Native.Nat.{ℕ, _≤_}
+use Prim.Native.Nat.{ℕ}
 use native.Mathlib.Omega.{arith}
 use mathlib.Core.Path.{_≡_, ap, _∙_}
 use mathlib.Core.List.{List}
@@ -7,33 +7,23 @@ use Rattle.purse.specs.declared.Purse.{Purse}
 use Rattle.listing.specs.Text.{numbered}
 use Rattle.listing.specs.Listing.{purseLine, footWith}
 use Rattle.listing.proofs.Puts.{then, same-bytes}
-use Rattle.listing.proofs.Numbers.{take-least}
+use Rattle.listing.proofs.Opened.{take-least}
 use borrow.Author.Needs.{needs}
 use Rattle.listing.proofs.purses.put_foot.Statement.{statement}
 use Rattle.listing.proofs.purses.put_foot.Tie as tie
-use Rattle.listing.proofs.purses.put_foot.Reads as reads
-use Rattle.listing.proofs.purses.put_foot.Lts as lts
-use Rattle.listing.proofs.purses.put_last.Reads as put-last-reads
-use Rattle.listing.proofs.purses.put_purses.Reads as put-purses-reads
-use Rattle.listing.proofs.purses.shown.Reads as shown-reads
 
--- src/foot.rt:62:9
 shown-requires : tie.Need-shown-requires
 shown-requires c κs = search needs
 
--- src/foot.rt:63:9
 put-purses-requires : tie.Need-put-purses-requires
 put-purses-requires c κs = search needs
 
--- src/foot.rt:66:5
 put-last-requires : tie.Need-put-last-requires
 put-last-requires c κs = search needs
 
--- src/foot.rt:57:1
 same-length : tie.Need-same-length
 same-length c = search needs
 
--- src/foot.rt:57:1
 returns : tie.Need-returns
 unfolding footWith
 returns c =

@@ -4,44 +4,31 @@ use Rattle.listing.proofs.Puts.{then, one-byte, then-two}
 use borrow.Author.Needs.{needs}
 use Rattle.listing.proofs.purses.put_last.Statement.{statement}
 use Rattle.listing.proofs.purses.put_last.Tie as tie
-use Rattle.listing.proofs.purses.put_last.Reads as reads
-use Rattle.listing.proofs.purses.put_last.Lts as lts
-use Rattle.listing.proofs.numbers.put_byte.Reads as put-byte-reads
-use Rattle.listing.proofs.text.put_named.Reads as put-named-reads
 
--- src/foot.rt:44:33
 slice-aggregate-put-named : tie.Need-slice-aggregate-put-named
 slice-aggregate-put-named c = search needs
 
--- src/foot.rt:44:9
 put-named-requires : tie.Need-put-named-requires
 put-named-requires c κs = search needs
 
--- src/foot.rt:45:33
 slice-aggregate-put-named-2 : tie.Need-slice-aggregate-put-named-2
 slice-aggregate-put-named-2 c = search needs
 
--- src/foot.rt:45:9
 put-named-requires-2 : tie.Need-put-named-requires-2
 put-named-requires-2 c κs = search needs
 
--- src/foot.rt:46:33
 slice-aggregate-put-named-3 : tie.Need-slice-aggregate-put-named-3
 slice-aggregate-put-named-3 c = search needs
 
--- src/foot.rt:46:9
 put-named-requires-3 : tie.Need-put-named-requires-3
 put-named-requires-3 c κs = search needs
 
--- src/foot.rt:47:5
 put-byte-requires : tie.Need-put-byte-requires
 put-byte-requires c κs = search needs
 
--- src/foot.rt:40:1
 same-length : tie.Need-same-length
 same-length c = search needs
 
--- src/foot.rt:40:1
 returns : tie.Need-returns
 unfolding lastLine
 returns c =

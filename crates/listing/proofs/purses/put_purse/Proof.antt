@@ -5,48 +5,34 @@ use Rattle.listing.proofs.Puts.{then, one-byte, then-two}
 use borrow.Author.Needs.{needs}
 use Rattle.listing.proofs.purses.put_purse.Statement.{statement}
 use Rattle.listing.proofs.purses.put_purse.Tie as tie
-use Rattle.listing.proofs.purses.put_purse.Reads as reads
-use Rattle.listing.proofs.purses.put_purse.Lts as lts
-use Rattle.listing.proofs.numbers.put_byte.Reads as put-byte-reads
-use Rattle.listing.proofs.text.put_named.Reads as put-named-reads
-use Rattle.listing.proofs.text.put_two.Reads as put-two-reads
 
--- src/foot.rt:18:33
 slice-aggregate-put-named : tie.Need-slice-aggregate-put-named
 slice-aggregate-put-named c = search needs
 
--- src/foot.rt:18:9
 put-named-requires : tie.Need-put-named-requires
 put-named-requires c κs = search needs
 
--- src/foot.rt:19:31
 cast-put-two : tie.Need-cast-put-two
 cast-put-two c = search needs
 
--- src/foot.rt:19:51
 cast-put-two-2 : tie.Need-cast-put-two-2
 cast-put-two-2 c = search needs
 
--- src/foot.rt:19:9
 put-two-requires : tie.Need-put-two-requires
 put-two-requires c κs = search needs
 
--- src/foot.rt:20:31
 cast-put-two-3 : tie.Need-cast-put-two-3
 cast-put-two-3 c = search needs
 
--- src/foot.rt:20:48
 cast-put-two-4 : tie.Need-cast-put-two-4
 cast-put-two-4 c = search needs
 
--- src/foot.rt:20:9
 put-two-requires-2 : tie.Need-put-two-requires-2
 put-two-requires-2 c κs =
     let money = c .before .before .before .before .before in
     let name = money .before .before .before .before .before .before in
     omega (arith, money .put-two .ensures .1, money .put-two .kept .0, name .put-named .ensures .1, name .put-named .kept .0, name .before .before .before .before .pre)
 
--- src/foot.rt:21:5
 put-byte-requires : tie.Need-put-byte-requires
 put-byte-requires c κs =
     let state = c .before .before .before in
@@ -54,11 +40,9 @@ put-byte-requires c κs =
     let name = money .before .before .before .before .before .before in
     omega (arith, state .put-two2 .ensures .1, state .put-two2 .kept .0, money .put-two .ensures .1, money .put-two .kept .0, name .put-named .ensures .1, name .put-named .kept .0, name .before .before .before .before .pre)
 
--- src/foot.rt:13:1
 same-length : tie.Need-same-length
 same-length c = search needs
 
--- src/foot.rt:13:1
 returns : tie.Need-returns
 unfolding purseLine
 returns c =

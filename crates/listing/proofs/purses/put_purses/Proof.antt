@@ -1,4 +1,4 @@
-use Prim.Native.Nat.{ℕ, _≤_, _<_, _-_, _+_, _*_}
+use Prim.Native.Nat.{ℕ, _≤_, _<_, _-_, _*_}
 use native.Mathlib.Omega.{arith}
 use mathlib.Core.Path.{_≡_, refl, _∙_}
 use mathlib.Core.List.{[]}
@@ -12,9 +12,6 @@ use Rattle.listing.proofs.Puts.{put-nothing, line-more}
 use borrow.Author.Needs.{needs}
 use Rattle.listing.proofs.purses.put_purses.Statement.{statement}
 use Rattle.listing.proofs.purses.put_purses.Tie as tie
-use Rattle.listing.proofs.purses.put_purses.Reads as reads
-use Rattle.listing.proofs.purses.put_purses.Lts as lts
-use Rattle.listing.proofs.purses.put_purse.Reads as put-purse-reads
 
 -- what the checker takes for an element past the table's end
 abbrev pastPurse : Purse
@@ -35,32 +32,25 @@ Inv-loop out₀ count table i₀ to₀ out i to =
 abbrev μ-loop : tie.MeasureT-loop
 μ-loop out₀ count table i₀ to₀ out i to = count - i
 
--- src/foot.rt:35:5
 loop-holds : tie.Need-loop-holds Inv-loop μ-loop
 unfolding numbered
 loop-holds c = (omega arith, omega arith, put-nothing _ _, refl)
 
--- src/foot.rt:36:17
 mul-p : tie.Need-mul-p Inv-loop μ-loop
 mul-p c = search needs
 
--- src/foot.rt:36:17
 array-copy-out-p : tie.Need-array-copy-out-p Inv-loop μ-loop
 array-copy-out-p c = search needs
 
--- src/foot.rt:37:9
 put-purse-requires : tie.Need-put-purse-requires Inv-loop μ-loop
 put-purse-requires c κs = search needs
 
--- src/foot.rt:38:9
 add-i : tie.Need-add-i Inv-loop μ-loop
 add-i c = search needs
 
--- src/foot.rt:35:5
 loop-less : tie.Need-loop-less Inv-loop μ-loop
 loop-less c = search needs
 
--- src/foot.rt:35:5
 loop-again : tie.Need-loop-again Inv-loop μ-loop
 loop-again c =
     let called = c .before .before in
@@ -77,11 +67,9 @@ loop-again c =
       called .put-purse .kept .0 ∙ inv .3,
     )
 
--- src/foot.rt:28:1
 same-length : tie.Need-same-length Inv-loop μ-loop
 same-length c = search needs
 
--- src/foot.rt:28:1
 returns : tie.Need-returns Inv-loop μ-loop
 returns c =
     let at-loop = c .before in

@@ -2,24 +2,16 @@ use Rattle.listing.proofs.Puts.{then, one-byte}
 use borrow.Author.Needs.{needs}
 use Rattle.listing.proofs.text.put_field.Statement.{statement}
 use Rattle.listing.proofs.text.put_field.Tie as tie
-use Rattle.listing.proofs.text.put_field.Reads as reads
-use Rattle.listing.proofs.text.put_field.Lts as lts
-use Rattle.listing.proofs.numbers.put_byte.Reads as put-byte-reads
-use Rattle.listing.proofs.text.put_number.Reads as put-number-reads
 
--- src/text.rt:70:9
 put-byte-requires : tie.Need-put-byte-requires
 put-byte-requires c κs = search needs
 
--- src/text.rt:71:5
 put-number-requires : tie.Need-put-number-requires
 put-number-requires c κs = search needs
 
--- src/text.rt:65:1
 same-length : tie.Need-same-length
 same-length c = search needs
 
--- src/text.rt:65:1
 returns : tie.Need-returns
 returns c =
     let called = c .before .before in

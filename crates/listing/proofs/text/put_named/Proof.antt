@@ -2,24 +2,16 @@ use Rattle.listing.proofs.Puts.{then}
 use borrow.Author.Needs.{needs}
 use Rattle.listing.proofs.text.put_named.Statement.{statement}
 use Rattle.listing.proofs.text.put_named.Tie as tie
-use Rattle.listing.proofs.text.put_named.Reads as reads
-use Rattle.listing.proofs.text.put_named.Lts as lts
-use Rattle.listing.proofs.text.put_field.Reads as put-field-reads
-use Rattle.listing.proofs.text.put_text.Reads as put-text-reads
 
--- src/text.rt:80:9
 put-text-requires : tie.Need-put-text-requires
 put-text-requires c κs = search needs
 
--- src/text.rt:81:5
 put-field-requires : tie.Need-put-field-requires
 put-field-requires c κs = search needs
 
--- src/text.rt:75:1
 same-length : tie.Need-same-length
 same-length c = search needs
 
--- src/text.rt:75:1
 returns : tie.Need-returns
 returns c =
     let called = c .before .before in

@@ -8,8 +8,6 @@ use Rattle.listing.proofs.Puts.{put-nothing, text-more, same-bytes}
 use borrow.Author.Needs.{needs}
 use Rattle.listing.proofs.text.put_text.Statement.{statement}
 use Rattle.listing.proofs.text.put_text.Tie as tie
-use Rattle.listing.proofs.text.put_text.Reads as reads
-use Rattle.listing.proofs.text.put_text.Lts as lts
 
 abbrev Inv-loop : tie.InvT-loop
 Inv-loop out₀ at text i₀ to₀ out i to =
@@ -18,31 +16,24 @@ Inv-loop out₀ at text i₀ to₀ out i to =
 abbrev μ-loop : tie.MeasureT-loop
 μ-loop out₀ at text i₀ to₀ out i to = length text - i
 
--- src/text.rt:23:5
 loop-holds : tie.Need-loop-holds Inv-loop μ-loop
 loop-holds c = (omega arith, omega arith, put-nothing _ _, refl)
 
--- src/text.rt:24:19
 shared-slice-read-out : tie.Need-shared-slice-read-out Inv-loop μ-loop
 shared-slice-read-out c = search needs
 
--- src/text.rt:24:9
 slice-write-out : tie.Need-slice-write-out Inv-loop μ-loop
 slice-write-out c = search needs
 
--- src/text.rt:25:9
 add-to : tie.Need-add-to Inv-loop μ-loop
 add-to c = search needs
 
--- src/text.rt:26:9
 add-i : tie.Need-add-i Inv-loop μ-loop
 add-i c = search needs
 
--- src/text.rt:23:5
 loop-less : tie.Need-loop-less Inv-loop μ-loop
 loop-less c = search needs
 
--- src/text.rt:23:5
 loop-again : tie.Need-loop-again Inv-loop μ-loop
 loop-again c =
     let at-loop = c .before .before in
@@ -52,11 +43,9 @@ loop-again c =
     let more : i < length text = search needs in
     (omega arith, omega arith, text-more text i more (inv .2), simp length-set (inv .3))
 
--- src/text.rt:17:1
 same-length : tie.Need-same-length Inv-loop μ-loop
 same-length c = search needs
 
--- src/text.rt:17:1
 returns : tie.Need-returns Inv-loop μ-loop
 returns c =
     let at-loop = c .before in

@@ -2,23 +2,16 @@ use Rattle.listing.proofs.Puts.{then}
 use borrow.Author.Needs.{needs}
 use Rattle.listing.proofs.text.put_two.Statement.{statement}
 use Rattle.listing.proofs.text.put_two.Tie as tie
-use Rattle.listing.proofs.text.put_two.Reads as reads
-use Rattle.listing.proofs.text.put_two.Lts as lts
-use Rattle.listing.proofs.text.put_field.Reads as put-field-reads
 
--- src/text.rt:89:9
 put-field-requires : tie.Need-put-field-requires
 put-field-requires c κs = search needs
 
--- src/text.rt:90:5
 put-field-requires-2 : tie.Need-put-field-requires-2
 put-field-requires-2 c κs = search needs
 
--- src/text.rt:84:1
 same-length : tie.Need-same-length
 same-length c = search needs
 
--- src/text.rt:84:1
 returns : tie.Need-returns
 returns c =
     let called = c .before .before in

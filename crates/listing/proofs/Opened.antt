@@ -1,22 +1,19 @@
 -- The balances of an opening: when they are all there, and when not; and a table's first records.
 -- Assumes nothing.
-use mathlib.Core.Path.{_≡_, refl, sym, ap, _∙_}
-use Prim.Native.Nat.{ℕ, zero, suc, _+_, _-_, _*_, _<_, _≤_, min}
+use mathlib.Core.Path.{_≡_, refl, sym, _∙_}
+use Prim.Native.Nat.{ℕ, _+_, _*_, _<_, _≤_, min}
 use mathlib.Core.Bool.{true, false}
-use native.Mathlib.Nat.{add-zero}
-use native.Mathlib.Numerals.{add-one}
 use native.Mathlib.Omega.{arith}
-use mathlib.Core.List.{List, [], _∷_, _++_}
+use mathlib.Core.List.{List, [], _∷_}
 use mathlib.Core.Logic.{⊎-elim}
 use lib.Dec.{leb}
-use lib.ListN.{length, take, getD, set, replicate, length-append}
+use lib.ListN.{length, take, getD, replicate}
 use borrow.Author.Tests.{lt-leb, le-leb, leb-true, leb-false}
-use lib.Seq.{take-all, set-append-seam, append-snoc}
+use lib.Seq.{take-all}
 use Rattle.purse.proofs.Bools.{which}
 use Rattle.purse.specs.Lists.{padded}
 use Rattle.layout.specs.Bytes.{numberAt}
 use Rattle.layout.proofs.Coded.{length-many}
-use Rattle.listing.specs.declared.Opening.{Opening}
 use Rattle.listing.specs.Opening.{balancesAt, wholeOpening, balancesIn, openingIn}
 
 empty : (l : List ℕ) → length l < 1 → l ≡ []
