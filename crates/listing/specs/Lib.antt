@@ -1,0 +1,4 @@
+pub mod Text
+pub mod Listing
+pub mod Opening
+pub mod Piece

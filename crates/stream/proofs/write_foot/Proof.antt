@@ -1,0 +1,34 @@
+use mathlib.Core.Path.{sym}
+use lib.Seq.{length-take-le}
+use borrow.Author.Needs.{needs}
+use Rattle.stream.proofs.write_foot.Statement.{statement}
+use Rattle.stream.proofs.write_foot.Tie as tie
+
+slice-aggregate-foot : tie.Need-slice-aggregate-foot
+slice-aggregate-foot c = search needs
+
+foot-requires : tie.Need-foot-requires
+foot-requires c κs = search needs
+
+array-share-prefix-lines : tie.Need-array-share-prefix-lines
+array-share-prefix-lines c = search needs
+
+slice-aggregate-write-all : tie.Need-slice-aggregate-write-all
+slice-aggregate-write-all c = sym (length-take-le _ _ (search needs))
+
+write-all-requires : tie.Need-write-all-requires
+write-all-requires c κs = search needs
+
+returns : tie.Need-returns
+returns c = search needs
+
+pub write-foot-spec : {M : Type 1} → statement M
+write-foot-spec =
+    tie.close
+    (tie.spec
+    slice-aggregate-foot
+    foot-requires
+    array-share-prefix-lines
+    slice-aggregate-write-all
+    write-all-requires
+    returns)
