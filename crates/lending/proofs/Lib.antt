@@ -1,4 +1,2 @@
-pub mod Structs
+mod Structs
 mod Calls
-pub mod Slices
-pub mod Whole

@@ -3,6 +3,7 @@
 use desk::Desk;
 use desk::Figure;
 use purse::Purse;
+use records::Reply;
 use records::copied;
 use records::replaced;
 use records::table_ok;
@@ -12,17 +13,9 @@ use steps::owed;
 use steps::place;
 ghost use mathlib.Core.Path.{_≡_};
 ghost use Rattle.rules.specs.Laid.{heldStep, heldOpening, heldClaims};
-ghost use Rattle.lending.specs.Lent.{held, replyOf};
+ghost use Rattle.records.specs.Lent.{held, replyOf};
 
-pub mod records; // records.rt: the lent records tested, copied out and replaced
 pub mod steps; // steps.rt: the bench's steps by value, as the entries call them
-
-// What an entry answers, and the desk as it then stands.
-#[repr(C)]
-pub struct Reply {
-    pub answer: u8,
-    pub desk: Desk,
-}
 
 // An event.
 #[no_mangle]

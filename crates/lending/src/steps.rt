@@ -14,7 +14,7 @@ ghost use mathlib.Core.Path.{_≡_};
 ghost use Rattle.rules.specs.Events.{decoded};
 ghost use Rattle.rules.specs.Laid.{heldOpening, heldClaims};
 ghost use Rattle.bench.specs.Acts.{placeOf, actOn};
-ghost use Rattle.lending.specs.Lent.{held};
+ghost use Rattle.records.specs.Lent.{held};
 
 // The place of the record that an event names, below 32.
 pub fn place(event: &[u8]) -> usize

@@ -31,10 +31,10 @@ use Rattle.desk.specs.declared.Desk.{Desk}
 use Rattle.desk.specs.declared.Answered.{Answered}
 use Rattle.layout.specs.declared.Written.{Written}
 use Rattle.layout.specs.Calls.{heldWrite, heldBuffer, heldRead}
-use Rattle.lending.specs.Lent.{held}
+use Rattle.records.specs.Lent.{held}
 use Rattle.lent.proofs.Lent.{asks, returned}
-use Rattle.lending.proofs.Structs.{Table, table-makes, dval}
-use Rattle.lending.proofs.Slices.{Shared}
+use Rattle.records.proofs.Structs.{Table, table-makes, dval}
+use Rattle.records.proofs.Slices.{Shared}
 use Rattle.desk.proofs.Desk as D
 use Rattle.desk.proofs.Desk.Laws as D′
 use Rattle.desk.proofs.Answered as R

@@ -10,8 +10,8 @@ use Rattle.desk.specs.declared.Desk.{Desk}
 use Rattle.desk.specs.declared.Held.{Held}
 use Rattle.rules.specs.Laid.{heldOk}
 use Rattle.layout.specs.Calls.{writeNumber, heldWrite, heldBuffer, readNumber, heldRead}
-use Rattle.lending.specs.Lent.{held, leftBy, copiedOf, replacedOf}
-use Rattle.lending.proofs.Whole.{stored-whole, read-whole}
+use Rattle.records.specs.Lent.{held, leftBy, copiedOf, replacedOf}
+use Rattle.records.proofs.Whole.{stored-whole, read-whole}
 
 write-refuses : (k : Held) (out : List ℕ) → heldOk k ≡ false → writeNumber k out ≡ 2
 unfolding writeNumber

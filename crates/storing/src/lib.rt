@@ -1,15 +1,15 @@
 // Stored images, over a table lent to each call: an image is written from the table copied out, or read by value and stored in the lent table.
 use desk::Desk;
 use layout::Written;
-use lending::Reply;
-use lending::records::copied;
-use lending::records::replaced;
 use purse::Purse;
+use records::Reply;
+use records::copied;
+use records::replaced;
 use steps::read_in;
 use steps::written;
 ghost use mathlib.Core.Path.{_≡_};
 ghost use Rattle.layout.specs.Calls.{heldWrite, heldBuffer, heldRead};
-ghost use Rattle.lending.specs.Lent.{held, replyOf};
+ghost use Rattle.records.specs.Lent.{held, replyOf};
 
 pub mod steps; // steps.rt: an image written and read by value, as the entries call it
 

@@ -8,7 +8,7 @@ use layout::Written;
 use purse::Purse;
 ghost use mathlib.Core.Path.{_≡_};
 ghost use Rattle.layout.specs.Calls.{heldWrite, heldBuffer, heldRead};
-ghost use Rattle.lending.specs.Lent.{held};
+ghost use Rattle.records.specs.Lent.{held};
 
 pub fn written(table: [Purse; 32], desk: Desk, out: &mut [u8]) -> Written
     ensures { λ r.

@@ -36,21 +36,22 @@ use denote.Exit.{yes}
 use Rattle.purse.specs.declared.Purse.{Purse}
 use Rattle.desk.specs.declared.Desk.{Desk}
 use Rattle.desk.specs.declared.Figure.{Figure}
-use Rattle.lending.specs.Lent.{held}
+use Rattle.records.specs.Lent.{held}
 use Rattle.rules.specs.Laid.{heldClaims}
-use Rattle.lending.proofs.Whole.{claims-lent}
+use Rattle.records.proofs.Whole.{claims-lent}
 use Rattle.lent.proofs.Lent.{gone}
-use Rattle.lending.proofs.Structs.{table-typed, dval}
-use Rattle.lending.proofs.Slices.{Shared, CopiedC, OwedC, calls-copied, calls-owed}
+use Rattle.records.proofs.Structs.{table-typed, dval}
+use Rattle.records.proofs.Slices.{Shared, CopiedC, calls-copied}
+use Rattle.lending.proofs.Calls.{OwedC, calls-owed}
 use Rattle.purse.proofs.Purse as T
 use Rattle.purse.proofs.Purse.Laws as T′
 use Rattle.desk.proofs.Desk as D
 use Rattle.desk.proofs.Desk.Laws as D′
 use Rattle.desk.proofs.Figure as G
 use Rattle.desk.proofs.Figure.Laws as G′
-use Rattle.lending.proofs.records.copied.Symbol as copied-def
-use Rattle.lending.proofs.records.copied.Symbol.{name as #lending·records·copied}
-use Rattle.lending.proofs.records.copied.Met as copied-thm
+use Rattle.records.proofs.copied.Symbol as copied-def
+use Rattle.records.proofs.copied.Symbol.{name as #records·copied}
+use Rattle.records.proofs.copied.Met as copied-thm
 use Rattle.lending.proofs.steps.owed.Symbol as owed-def
 use Rattle.lending.proofs.steps.owed.Symbol.{name as #lending·steps·owed}
 use Rattle.lending.proofs.steps.owed.Met as owed-thm
@@ -98,7 +99,7 @@ module _ {M : Type 1} (𝓤 : URA M) (H : Heap 𝓤) (A : Atoms 𝓤) (W : Given
       suffices ! _ (ends-at 𝓤 H A f.ended stayed (f.clauses 𝓤 H A at-mem run) W (((κ, tt), (q, tt), tt, a, at), tt) (gval g) g (tt, (tt, tt)) (tt, (tt, tt))) $ says ! e $
       nothing ! $ move ! (1 ∷ 0 ∷ []) $ join ! $ frame ! $ nothing ! $ nothing ! $ fjoin ! $ move ! (1 ∷ 0 ∷ []) $ fjoin ! $ frame ! $ owned ! G.the-row (Is G.the-row) (LL.makes G.the-type G′.the-plain 𝓤 H A) g _ is $ done !
 
-  module _ (C : Calls 𝓤 H) (Λ : Loops 𝓤 H) (fm : FmC 𝓤 H (W .laws) C) (known-copied : Triple 𝓤 (C #lending·records·copied) (CopiedC 𝓤 H A at-mem run)) (known : Triple 𝓤 (C #lending·steps·owed) (OwedC 𝓤 H A at-mem run)) where
+  module _ (C : Calls 𝓤 H) (Λ : Loops 𝓤 H) (fm : FmC 𝓤 H (W .laws) C) (known-copied : Triple 𝓤 (C #records·copied) (CopiedC 𝓤 H A at-mem run)) (known : Triple 𝓤 (C #lending·steps·owed) (OwedC 𝓤 H A at-mem run)) where
     walk : ent 𝓤 (onEntry 𝓤 H A f.signature (κ, tt) (q, tt) a at) (WpFn 𝓤 H C Λ code.function (s ∷ dval d ∷ []) Post)
     walk =
         qed W ((‵ (flft κ q) ⊛ ‵ ftrue) ∷ ‵ (owns (ShrSlice (named 0) κ T.the-row ∷ D.the-row ∷ []) a at) ∷ []) ∵ split ! $ move ! (2 ∷ []) $ fsplit ! $ keep ! (0 ∷ 2 ∷ []) $
@@ -117,7 +118,7 @@ module _ {M : Type 1} (𝓤 : URA M) (H : Heap 𝓤) (A : Atoms 𝓤) (W : Given
         by ! (exits g (subst (Is G.the-row g) (LL.tells G.the-type G′.the-laws g _ g-is) g-is) (e₁ ∙ ap (λ (t : List Purse). heldClaims (held t d)) e ∙ claims-lent ys d))))))))
 
 bench-claims-meets : {M : Type 1} (𝓤 : URA M) (H : Heap 𝓤) (A : Atoms 𝓤) (W : Given 𝓤 H A) (at-mem : Memory → SProp 𝓤) (run : Routine → Fun 𝓤) (𝓣 : Tables 𝓤 H)
-    → Triple 𝓤 (𝓣 .C #lending·records·copied) (CopiedC 𝓤 H A at-mem run) → Triple 𝓤 (𝓣 .C #lending·steps·owed) (OwedC 𝓤 H A at-mem run) → Meets 𝓤 H A f.signature (WpFn 𝓤 H (𝓣 .C) (𝓣 .Λ) code.function) (f.spec 𝓤 H A at-mem run)
+    → Triple 𝓤 (𝓣 .C #records·copied) (CopiedC 𝓤 H A at-mem run) → Triple 𝓤 (𝓣 .C #lending·steps·owed) (OwedC 𝓤 H A at-mem run) → Meets 𝓤 H A f.signature (WpFn 𝓤 H (𝓣 .C) (𝓣 .Λ) code.function) (f.spec 𝓤 H A at-mem run)
 bench-claims-meets 𝓤 H A W at-mem run 𝓣 known-copied known =
     walk-meets 𝓤 H A f.ended stayed W (goes-none-slice 𝓤 H A W 1 (0 ∷ []) tt (plain (λ _. T.the-row)) yes, (goes-dropped 𝓤 H A W 1 (plain (λ _. D.the-row)) yes (λ κs x f. refl), tt)) (f.clauses 𝓤 H A at-mem run)
     (WpFn 𝓤 H (𝓣 .C) (𝓣 .Λ) code.function) (WpFn-mono 𝓤 H (W .laws) 𝓣 code.function)
@@ -131,5 +132,5 @@ bench-claims-spec 𝓤 H 𝓜 𝓖 𝓡 =
     entered 𝓤 H (tripleOf 𝓤 H (𝓖 .A) f.signature (f.spec 𝓤 H (𝓖 .A) (𝓜 .mem) (𝓡 .run)))
     (tables 𝓤 H 𝓜 𝓡 code.env .C) (tables 𝓤 H 𝓜 𝓡 code.env .Λ) #lending·bench-claims code.function (code.unfolded 𝓤 H 𝓜 𝓡)
     (bench-claims-meets 𝓤 H (𝓖 .A) (givenOf 𝓤 H 𝓜 𝓖) (𝓜 .mem) (𝓡 .run) (tablesOf 𝓤 H 𝓜 (tables 𝓤 H 𝓜 𝓡 code.env))
-    (cited 𝓤 H (CopiedC 𝓤 H (𝓖 .A) (𝓜 .mem) (𝓡 .run)) 𝓜 𝓡 code.env #lending·records·copied copied-def.routine code.calls-lending·records·copied (copied-thm.met 𝓤 H 𝓜 𝓖 𝓡))
+    (cited 𝓤 H (CopiedC 𝓤 H (𝓖 .A) (𝓜 .mem) (𝓡 .run)) 𝓜 𝓡 code.env #records·copied copied-def.routine code.calls-records·copied (copied-thm.met 𝓤 H 𝓜 𝓖 𝓡))
     (cited 𝓤 H (OwedC 𝓤 H (𝓖 .A) (𝓜 .mem) (𝓡 .run)) 𝓜 𝓡 code.env #lending·steps·owed owed-def.routine code.calls-lending·steps·owed (owed-thm.met 𝓤 H 𝓜 𝓖 𝓡)))

@@ -39,27 +39,28 @@ use denote.Exit.{yes}
 use Rattle.purse.specs.declared.Purse.{Purse}
 use Rattle.desk.specs.declared.Desk.{Desk}
 use Rattle.rules.specs.Laid.{heldOpening}
-use Rattle.lending.specs.declared.Reply.{Reply}
+use Rattle.records.specs.declared.Reply.{Reply}
 use Rattle.desk.specs.declared.Answered.{Answered}
-use Rattle.lending.specs.Lent.{Left, held, leftBy, copiedOf, replacedOf}
+use Rattle.records.specs.Lent.{Left, held, leftBy, copiedOf, replacedOf}
 use Rattle.lent.proofs.Lent.{gone, shares-slice, unshares-slice}
-use Rattle.lending.proofs.Whole.{opening-lent}
-use Rattle.lending.proofs.Structs.{Table, table-typed, dval, yval}
-use Rattle.lending.proofs.Slices.{Shared, Lent, CopiedC, OpenedC, ReplacedC, calls-copied, calls-opened, calls-replaced}
+use Rattle.records.proofs.Whole.{opening-lent}
+use Rattle.records.proofs.Structs.{Table, table-typed, dval, yval}
+use Rattle.records.proofs.Slices.{Shared, Lent, CopiedC, ReplacedC, calls-copied, calls-replaced}
+use Rattle.lending.proofs.Calls.{OpenedC, calls-opened}
 use Rattle.purse.proofs.Purse as T
 use Rattle.purse.proofs.Purse.Laws as T′
 use Rattle.desk.proofs.Desk as D
 use Rattle.desk.proofs.Desk.Laws as D′
 use Rattle.desk.proofs.Answered as R
 use Rattle.desk.proofs.Answered.Laws as R′
-use Rattle.lending.proofs.Reply as Y
-use Rattle.lending.proofs.Reply.Laws as Y′
-use Rattle.lending.proofs.records.copied.Symbol as copied-def
-use Rattle.lending.proofs.records.copied.Symbol.{name as #lending·records·copied}
-use Rattle.lending.proofs.records.copied.Met as copied-thm
-use Rattle.lending.proofs.records.replaced.Symbol as replaced-def
-use Rattle.lending.proofs.records.replaced.Symbol.{name as #lending·records·replaced}
-use Rattle.lending.proofs.records.replaced.Met as replaced-thm
+use Rattle.records.proofs.Reply as Y
+use Rattle.records.proofs.Reply.Laws as Y′
+use Rattle.records.proofs.copied.Symbol as copied-def
+use Rattle.records.proofs.copied.Symbol.{name as #records·copied}
+use Rattle.records.proofs.copied.Met as copied-thm
+use Rattle.records.proofs.replaced.Symbol as replaced-def
+use Rattle.records.proofs.replaced.Symbol.{name as #records·replaced}
+use Rattle.records.proofs.replaced.Met as replaced-thm
 use Rattle.lending.proofs.steps.opened.Symbol as opened-def
 use Rattle.lending.proofs.steps.opened.Symbol.{name as #lending·steps·opened}
 use Rattle.lending.proofs.steps.opened.Met as opened-thm
@@ -126,8 +127,8 @@ module _ {M : Type 1} (𝓤 : URA M) (H : Heap 𝓤) (A : Atoms 𝓤) (W : Given
       nothing ! $ move ! (4 ∷ 0 ∷ []) $ join ! $ move ! (2 ∷ 0 ∷ []) $ join ! $ frame ! $
       nothing ! $ move ! (2 ∷ 0 ∷ []) $ fjoin ! $ nothing ! $ fjoin ! $ move ! (1 ∷ 0 ∷ []) $ fjoin ! $ frame ! $ owned ! Y.the-row (Is Y.the-row) (LL.makes Y.the-type Y′.the-plain 𝓤 H A) y _ is $ done !
 
-  module _ (C : Calls 𝓤 H) (Λ : Loops 𝓤 H) (fm : FmC 𝓤 H (W .laws) C) (known-copied : Triple 𝓤 (C #lending·records·copied) (CopiedC 𝓤 H A at-mem run)) (known : Triple 𝓤 (C #lending·steps·opened) (OpenedC 𝓤 H A at-mem run))
-      (known-replaced : Triple 𝓤 (C #lending·records·replaced) (ReplacedC 𝓤 H A at-mem run)) where
+  module _ (C : Calls 𝓤 H) (Λ : Loops 𝓤 H) (fm : FmC 𝓤 H (W .laws) C) (known-copied : Triple 𝓤 (C #records·copied) (CopiedC 𝓤 H A at-mem run)) (known : Triple 𝓤 (C #lending·steps·opened) (OpenedC 𝓤 H A at-mem run))
+      (known-replaced : Triple 𝓤 (C #records·replaced) (ReplacedC 𝓤 H A at-mem run)) where
     module _ (l₀ l₁ l₂ l₃ l₄ l₅ l₆ l₇ l₈ l₉ : ℕ) where
       abbrev E : Env 𝓤 H
       E = (Y′.mir, l₀) ∷ (ref, l₁) ∷ (D′.mir, l₂) ∷ (numbers-ref, l₃) ∷ (R′.mir, l₄) ∷ (arr, l₅) ∷ (imm-ptr, l₆) ∷ (sliceTy imm-ptr, l₇) ∷ (mut-ptr, l₈) ∷ (sliceTy mut-ptr, l₉) ∷ []
@@ -182,7 +183,7 @@ module _ {M : Type 1} (𝓤 : URA M) (H : Heap 𝓤) (A : Atoms 𝓤) (W : Given
         move ! (20 ∷ 21 ∷ 22 ∷ 23 ∷ 18 ∷ 19 ∷ 16 ∷ 17 ∷ 14 ∷ 15 ∷ 12 ∷ 13 ∷ 10 ∷ 11 ∷ 8 ∷ 9 ∷ 6 ∷ 7 ∷ 4 ∷ 5 ∷ 2 ∷ 3 ∷ 0 ∷ 1 ∷ []) $ body l₀ l₁ l₂ l₃ l₄ l₅ l₆ l₇ l₈ l₉))))))))))
 
 bench-opening-meets : {M : Type 1} (𝓤 : URA M) (H : Heap 𝓤) (A : Atoms 𝓤) (W : Given 𝓤 H A) (at-mem : Memory → SProp 𝓤) (run : Routine → Fun 𝓤) (𝓣 : Tables 𝓤 H)
-    → Triple 𝓤 (𝓣 .C #lending·records·copied) (CopiedC 𝓤 H A at-mem run) → Triple 𝓤 (𝓣 .C #lending·steps·opened) (OpenedC 𝓤 H A at-mem run) → Triple 𝓤 (𝓣 .C #lending·records·replaced) (ReplacedC 𝓤 H A at-mem run)
+    → Triple 𝓤 (𝓣 .C #records·copied) (CopiedC 𝓤 H A at-mem run) → Triple 𝓤 (𝓣 .C #lending·steps·opened) (OpenedC 𝓤 H A at-mem run) → Triple 𝓤 (𝓣 .C #records·replaced) (ReplacedC 𝓤 H A at-mem run)
     → Meets 𝓤 H A f.signature (WpFn 𝓤 H (𝓣 .C) (𝓣 .Λ) code.function) (f.spec 𝓤 H A at-mem run)
 bench-opening-meets 𝓤 H A W at-mem run 𝓣 known-copied known known-replaced =
     walk-meets 𝓤 H A f.ended stayed W (goes-gave-slice 𝓤 H A W 2 0 tt (plain (λ _. T.the-row)), (goes-dropped 𝓤 H A W 2 (plain (λ _. D.the-row)) yes (λ κs x f. refl), (goes-none-slice 𝓤 H A W 2 (1 ∷ []) tt (plain (λ _. u32)) yes, tt))) (f.clauses 𝓤 H A at-mem run)
@@ -198,6 +199,6 @@ bench-opening-spec 𝓤 H 𝓜 𝓖 𝓡 =
     entered 𝓤 H (tripleOf 𝓤 H (𝓖 .A) f.signature (f.spec 𝓤 H (𝓖 .A) (𝓜 .mem) (𝓡 .run)))
     (tables 𝓤 H 𝓜 𝓡 code.env .C) (tables 𝓤 H 𝓜 𝓡 code.env .Λ) #lending·bench-opening code.function (code.unfolded 𝓤 H 𝓜 𝓡)
     (bench-opening-meets 𝓤 H (𝓖 .A) (givenOf 𝓤 H 𝓜 𝓖) (𝓜 .mem) (𝓡 .run) (tablesOf 𝓤 H 𝓜 (tables 𝓤 H 𝓜 𝓡 code.env))
-    (cited 𝓤 H (CopiedC 𝓤 H (𝓖 .A) (𝓜 .mem) (𝓡 .run)) 𝓜 𝓡 code.env #lending·records·copied copied-def.routine code.calls-lending·records·copied (copied-thm.met 𝓤 H 𝓜 𝓖 𝓡))
+    (cited 𝓤 H (CopiedC 𝓤 H (𝓖 .A) (𝓜 .mem) (𝓡 .run)) 𝓜 𝓡 code.env #records·copied copied-def.routine code.calls-records·copied (copied-thm.met 𝓤 H 𝓜 𝓖 𝓡))
     (cited 𝓤 H (OpenedC 𝓤 H (𝓖 .A) (𝓜 .mem) (𝓡 .run)) 𝓜 𝓡 code.env #lending·steps·opened opened-def.routine code.calls-lending·steps·opened (opened-thm.met 𝓤 H 𝓜 𝓖 𝓡))
-    (cited 𝓤 H (ReplacedC 𝓤 H (𝓖 .A) (𝓜 .mem) (𝓡 .run)) 𝓜 𝓡 code.env #lending·records·replaced replaced-def.routine code.calls-lending·records·replaced (replaced-thm.met 𝓤 H 𝓜 𝓖 𝓡)))
+    (cited 𝓤 H (ReplacedC 𝓤 H (𝓖 .A) (𝓜 .mem) (𝓡 .run)) 𝓜 𝓡 code.env #records·replaced replaced-def.routine code.calls-records·replaced (replaced-thm.met 𝓤 H 𝓜 𝓖 𝓡)))

@@ -39,12 +39,12 @@ use denote.Exit.{yes}
 use Rattle.purse.specs.declared.Purse.{Purse}
 use Rattle.desk.specs.declared.Desk.{Desk}
 use Rattle.layout.specs.declared.Written.{Written}
-use Rattle.lending.specs.Lent.{held, copiedOf}
+use Rattle.records.specs.Lent.{held, copiedOf}
 use Rattle.layout.specs.Calls.{heldWrite, heldBuffer}
 use Rattle.storing.proofs.Whole.{write-lent, buffer-lent}
 use Rattle.lent.proofs.Lent.{gone}
-use Rattle.lending.proofs.Structs.{Table, table-typed, dval}
-use Rattle.lending.proofs.Slices.{Shared, CopiedC, calls-copied}
+use Rattle.records.proofs.Structs.{Table, table-typed, dval}
+use Rattle.records.proofs.Slices.{Shared, CopiedC, calls-copied}
 use Rattle.storing.proofs.Calls.{Buffer, WrittenC, calls-written}
 use Rattle.purse.proofs.Purse as T
 use Rattle.purse.proofs.Purse.Laws as T′
@@ -52,9 +52,9 @@ use Rattle.desk.proofs.Desk as D
 use Rattle.desk.proofs.Desk.Laws as D′
 use Rattle.layout.proofs.Written as X
 use Rattle.layout.proofs.Written.Laws as X′
-use Rattle.lending.proofs.records.copied.Symbol as copied-def
-use Rattle.lending.proofs.records.copied.Symbol.{name as #lending·records·copied}
-use Rattle.lending.proofs.records.copied.Met as copied-thm
+use Rattle.records.proofs.copied.Symbol as copied-def
+use Rattle.records.proofs.copied.Symbol.{name as #records·copied}
+use Rattle.records.proofs.copied.Met as copied-thm
 use Rattle.storing.proofs.steps.written.Symbol as written-def
 use Rattle.storing.proofs.steps.written.Symbol.{name as #storing·steps·written}
 use Rattle.storing.proofs.steps.written.Met as written-thm
@@ -114,7 +114,7 @@ module _ {M : Type 1} (𝓤 : URA M) (H : Heap 𝓤) (A : Atoms 𝓤) (W : Given
       nothing ! $ move ! (2 ∷ 0 ∷ []) $ join ! $ move ! (2 ∷ 0 ∷ []) $ join ! $ frame ! $
       nothing ! $ move ! (1 ∷ 0 ∷ []) $ fjoin ! $ nothing ! $ fjoin ! $ move ! (1 ∷ 0 ∷ []) $ fjoin ! $ frame ! $ owned ! X.the-row (Is X.the-row) (LL.makes X.the-type X′.the-plain 𝓤 H A) w _ is $ done !
 
-  module _ (C : Calls 𝓤 H) (Λ : Loops 𝓤 H) (fm : FmC 𝓤 H (W .laws) C) (known-copied : Triple 𝓤 (C #lending·records·copied) (CopiedC 𝓤 H A at-mem run)) (known : Triple 𝓤 (C #storing·steps·written) (WrittenC 𝓤 H A at-mem run)) where
+  module _ (C : Calls 𝓤 H) (Λ : Loops 𝓤 H) (fm : FmC 𝓤 H (W .laws) C) (known-copied : Triple 𝓤 (C #records·copied) (CopiedC 𝓤 H A at-mem run)) (known : Triple 𝓤 (C #storing·steps·written) (WrittenC 𝓤 H A at-mem run)) where
     module _ (l₀ l₁ l₂ l₃ l₄ l₅ l₆ : ℕ) where
       abbrev E : Env 𝓤 H
       E = (X′.mir, l₀) ∷ (ref, l₁) ∷ (D′.mir, l₂) ∷ (buffer-ref, l₃) ∷ (arr, l₄) ∷ (mut-ptr, l₅) ∷ (sliceTy mut-ptr, l₆) ∷ []
@@ -148,7 +148,7 @@ module _ {M : Type 1} (𝓤 : URA M) (H : Heap 𝓤) (A : Atoms 𝓤) (W : Given
         calls-copied ! at-mem run fm known-copied κ q γ b o ys (and-then ! (load ! (from ! (stop !)) (look ! 6 refl)) (no-more !)) (λ v r is e. writes l₀ l₁ l₂ l₃ l₄ l₅ l₆ v r is e))))))))
 
 image-write-meets : {M : Type 1} (𝓤 : URA M) (H : Heap 𝓤) (A : Atoms 𝓤) (W : Given 𝓤 H A) (at-mem : Memory → SProp 𝓤) (run : Routine → Fun 𝓤) (𝓣 : Tables 𝓤 H)
-    → Triple 𝓤 (𝓣 .C #lending·records·copied) (CopiedC 𝓤 H A at-mem run) → Triple 𝓤 (𝓣 .C #storing·steps·written) (WrittenC 𝓤 H A at-mem run) → Meets 𝓤 H A f.signature (WpFn 𝓤 H (𝓣 .C) (𝓣 .Λ) code.function) (f.spec 𝓤 H A at-mem run)
+    → Triple 𝓤 (𝓣 .C #records·copied) (CopiedC 𝓤 H A at-mem run) → Triple 𝓤 (𝓣 .C #storing·steps·written) (WrittenC 𝓤 H A at-mem run) → Meets 𝓤 H A f.signature (WpFn 𝓤 H (𝓣 .C) (𝓣 .Λ) code.function) (f.spec 𝓤 H A at-mem run)
 image-write-meets 𝓤 H A W at-mem run 𝓣 known-copied known =
     walk-meets 𝓤 H A f.ended stayed W (goes-none-slice 𝓤 H A W 2 (0 ∷ []) tt (plain (λ _. T.the-row)) yes, (goes-dropped 𝓤 H A W 2 (plain (λ _. D.the-row)) yes (λ κs x f. refl), (goes-gave-slice 𝓤 H A W 2 1 tt (plain (λ _. u8)), tt))) (f.clauses 𝓤 H A at-mem run)
     (WpFn 𝓤 H (𝓣 .C) (𝓣 .Λ) code.function) (WpFn-mono 𝓤 H (W .laws) 𝓣 code.function)
@@ -163,5 +163,5 @@ image-write-spec 𝓤 H 𝓜 𝓖 𝓡 =
     entered 𝓤 H (tripleOf 𝓤 H (𝓖 .A) f.signature (f.spec 𝓤 H (𝓖 .A) (𝓜 .mem) (𝓡 .run)))
     (tables 𝓤 H 𝓜 𝓡 code.env .C) (tables 𝓤 H 𝓜 𝓡 code.env .Λ) #storing·image-write code.function (code.unfolded 𝓤 H 𝓜 𝓡)
     (image-write-meets 𝓤 H (𝓖 .A) (givenOf 𝓤 H 𝓜 𝓖) (𝓜 .mem) (𝓡 .run) (tablesOf 𝓤 H 𝓜 (tables 𝓤 H 𝓜 𝓡 code.env))
-    (cited 𝓤 H (CopiedC 𝓤 H (𝓖 .A) (𝓜 .mem) (𝓡 .run)) 𝓜 𝓡 code.env #lending·records·copied copied-def.routine code.calls-lending·records·copied (copied-thm.met 𝓤 H 𝓜 𝓖 𝓡))
+    (cited 𝓤 H (CopiedC 𝓤 H (𝓖 .A) (𝓜 .mem) (𝓡 .run)) 𝓜 𝓡 code.env #records·copied copied-def.routine code.calls-records·copied (copied-thm.met 𝓤 H 𝓜 𝓖 𝓡))
     (cited 𝓤 H (WrittenC 𝓤 H (𝓖 .A) (𝓜 .mem) (𝓡 .run)) 𝓜 𝓡 code.env #storing·steps·written written-def.routine code.calls-storing·steps·written (written-thm.met 𝓤 H 𝓜 𝓖 𝓡)))

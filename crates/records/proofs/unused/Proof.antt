@@ -1,7 +1,7 @@
 -- One zero record, 32 times. Assumes nothing.
 use borrow.Author.Needs.{needs}
-use Rattle.lending.proofs.records.unused.Statement.{statement}
-use Rattle.lending.proofs.records.unused.Tie as tie
+use Rattle.records.proofs.unused.Statement.{statement}
+use Rattle.records.proofs.unused.Tie as tie
 
 zero-requires : tie.Need-zero-requires
 zero-requires c κs = search needs

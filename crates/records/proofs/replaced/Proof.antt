@@ -1,4 +1,4 @@
--- `lending::records::replaced` meets its contract: a walk of its MIR, by hand. The lent table is opened once; a turn of the loop stores one record of the
+-- `records::replaced` meets its contract: a walk of its MIR, by hand. The lent table is opened once; a turn of the loop stores one record of the
 -- answered table (`over`), and after 32 turns the lent table is the answered one. Of the desk and of what was answered nothing is kept at exit
 -- (`stay-dropped`): they are plain data. Assumes nothing.
 use mathlib.Core.Path.{_≡_, refl, sym, ap, subst, _∙_}
@@ -47,28 +47,28 @@ use Rattle.purse.specs.declared.Purse.{Purse}
 use Rattle.purse.specs.Purse.{zeroPurse}
 use Rattle.desk.specs.declared.Desk.{Desk}
 use Rattle.desk.specs.declared.Answered.{Answered}
-use Rattle.lending.specs.declared.Reply.{Reply}
-use Rattle.lending.specs.Lent.{Left, replacedOf}
+use Rattle.records.specs.declared.Reply.{Reply}
+use Rattle.records.specs.Lent.{Left, replacedOf}
 use Rattle.lent.proofs.Lent.{after, while-test, if-test, gone, place-of, place-is, if-false, not-not, to-raw, from-raw, opens-row, shuts-row, OpenSlice, opens-array, shuts-array}
 use Rattle.lent.proofs.Over.{over, over-length, over-next, over-all}
-use Rattle.lending.proofs.Structs.{pval, psize, Table, table-typed, dval, reply, yval, reply-is, aval, answered-fits, desk-is}
-use Rattle.lending.proofs.Calls.{TableOfC, calls-table-of}
+use Rattle.records.proofs.Structs.{pval, psize, Table, table-typed, dval, reply, yval, reply-is, aval, answered-fits, desk-is}
+use Rattle.records.proofs.Calls.{TableOfC, calls-table-of}
 use Rattle.purse.proofs.Purse as T
 use Rattle.purse.proofs.Purse.Laws as T′
 use Rattle.desk.proofs.Desk as D
 use Rattle.desk.proofs.Desk.Laws as D′
 use Rattle.desk.proofs.Answered as A′
 use Rattle.desk.proofs.Answered.Laws as A″
-use Rattle.lending.proofs.Reply as Y
-use Rattle.lending.proofs.Reply.Laws as Y′
-use Rattle.lending.proofs.records.table_of.Symbol as table-of-def
-use Rattle.lending.proofs.records.table_of.Symbol.{name as #lending·records·table-of}
-use Rattle.lending.proofs.records.table_of.Met as table-of-thm
-use Rattle.lending.proofs.records.replaced.Key.{name as #lending·records·replaced}
-use Rattle.lending.proofs.records.replaced as f
-use Rattle.lending.proofs.records.replaced.Statement as stated
-use Rattle.lending.proofs.records.replaced.Code as code
-use Rattle.lending.proofs.records.replaced.Code.Mir as mir
+use Rattle.records.proofs.Reply as Y
+use Rattle.records.proofs.Reply.Laws as Y′
+use Rattle.records.proofs.table_of.Symbol as table-of-def
+use Rattle.records.proofs.table_of.Symbol.{name as #records·table-of}
+use Rattle.records.proofs.table_of.Met as table-of-thm
+use Rattle.records.proofs.replaced.Key.{name as #records·replaced}
+use Rattle.records.proofs.replaced as f
+use Rattle.records.proofs.replaced.Statement as stated
+use Rattle.records.proofs.replaced.Code as code
+use Rattle.records.proofs.replaced.Code.Mir as mir
 
 other-length : (l : List Purse) (d : Desk) (c : Answered) → eqb (length l) 32 ≡ false → record { reply = reply 2 d; table = l } ≡ replacedOf l d c
 unfolding replacedOf
@@ -136,7 +136,7 @@ module _ {M : Type 1} (𝓤 : URA M) (H : Heap 𝓤) (A : Atoms 𝓤) (W : Given
   Nearer-wf : WellFounded Nearer
   Nearer-wf = InvImage·wf (λ (i : Upto). 32 - i .0) (Nat·lt-wfRel .wf)
 
-  module _ (𝓣 : Tables 𝓤 H) (known : Triple 𝓤 (𝓣 .C #lending·records·table-of) (TableOfC 𝓤 H A at-mem run)) where
+  module _ (𝓣 : Tables 𝓤 H) (known : Triple 𝓤 (𝓣 .C #records·table-of) (TableOfC 𝓤 H A at-mem run)) where
     abbrev C : Calls 𝓤 H
     C = 𝓣 .C
 
@@ -268,7 +268,7 @@ module _ {M : Type 1} (𝓤 : URA M) (H : Heap 𝓤) (A : Atoms 𝓤) (W : Given
         move ! (34 ∷ 35 ∷ 32 ∷ 33 ∷ 30 ∷ 31 ∷ 28 ∷ 29 ∷ 26 ∷ 27 ∷ 24 ∷ 25 ∷ 22 ∷ 23 ∷ 20 ∷ 21 ∷ 18 ∷ 19 ∷ 16 ∷ 17 ∷ 14 ∷ 15 ∷ 12 ∷ 13 ∷ 10 ∷ 11 ∷ 8 ∷ 9 ∷ 6 ∷ 7 ∷ 4 ∷ 5 ∷ 2 ∷ 3 ∷ 0 ∷ 1 ∷ []) $
         body l₀ l₁ l₂ l₃ l₄ l₅ l₆ l₇ l₈ l₉ l₁₀ l₁₁ l₁₂ l₁₃ l₁₄ l₁₅ l₁₆)))))))))))))))))
 
-replaced-meets : {M : Type 1} (𝓤 : URA M) (H : Heap 𝓤) (A : Atoms 𝓤) (W : Given 𝓤 H A) (at-mem : Memory → SProp 𝓤) (run : Routine → Fun 𝓤) (𝓣 : Tables 𝓤 H) → Triple 𝓤 (𝓣 .C #lending·records·table-of) (TableOfC 𝓤 H A at-mem run)
+replaced-meets : {M : Type 1} (𝓤 : URA M) (H : Heap 𝓤) (A : Atoms 𝓤) (W : Given 𝓤 H A) (at-mem : Memory → SProp 𝓤) (run : Routine → Fun 𝓤) (𝓣 : Tables 𝓤 H) → Triple 𝓤 (𝓣 .C #records·table-of) (TableOfC 𝓤 H A at-mem run)
     → Meets 𝓤 H A f.signature (WpFn 𝓤 H (𝓣 .C) (𝓣 .Λ) code.function) (f.spec 𝓤 H A at-mem run)
 replaced-meets 𝓤 H A W at-mem run 𝓣 known =
     walk-meets 𝓤 H A f.ended stayed W (goes-slice 𝓤 H A W 1 0 tt (plain (λ _. T.the-row)), (goes-dropped 𝓤 H A W 1 (plain (λ _. D.the-row)) yes (λ κs x f. refl), (goes-dropped 𝓤 H A W 1 (plain (λ _. A′.the-row)) yes (λ κs x f. refl), tt))) (f.clauses 𝓤 H A at-mem run)
@@ -281,6 +281,6 @@ pub replaced-spec : {M : Type 1} → stated.statement M
 unfolding code.routine tablesOf
 replaced-spec 𝓤 H 𝓜 𝓖 𝓡 =
     entered 𝓤 H (tripleOf 𝓤 H (𝓖 .A) f.signature (f.spec 𝓤 H (𝓖 .A) (𝓜 .mem) (𝓡 .run)))
-    (tables 𝓤 H 𝓜 𝓡 code.env .C) (tables 𝓤 H 𝓜 𝓡 code.env .Λ) #lending·records·replaced code.function (code.unfolded 𝓤 H 𝓜 𝓡)
+    (tables 𝓤 H 𝓜 𝓡 code.env .C) (tables 𝓤 H 𝓜 𝓡 code.env .Λ) #records·replaced code.function (code.unfolded 𝓤 H 𝓜 𝓡)
     (replaced-meets 𝓤 H (𝓖 .A) (givenOf 𝓤 H 𝓜 𝓖) (𝓜 .mem) (𝓡 .run) (tablesOf 𝓤 H 𝓜 (tables 𝓤 H 𝓜 𝓡 code.env))
-    (cited 𝓤 H (TableOfC 𝓤 H (𝓖 .A) (𝓜 .mem) (𝓡 .run)) 𝓜 𝓡 code.env #lending·records·table-of table-of-def.routine code.calls-lending·records·table-of (table-of-thm.met 𝓤 H 𝓜 𝓖 𝓡)))
+    (cited 𝓤 H (TableOfC 𝓤 H (𝓖 .A) (𝓜 .mem) (𝓡 .run)) 𝓜 𝓡 code.env #records·table-of table-of-def.routine code.calls-records·table-of (table-of-thm.met 𝓤 H 𝓜 𝓖 𝓡)))

@@ -8,7 +8,7 @@ use mathlib.Core.Logic.{inl, inr}
 use mathlib.Core.List.{List}
 use lib.ListN.{length, getD, replicate}
 use lib.Dec.{T, leb, eqb}
-use borrow.Author.Tests.{leb-true}
+use borrow.Author.Tests.{leb-true, eqb-true}
 use Rattle.purse.specs.declared.Purse.{Purse}
 use Rattle.purse.specs.Lists.{every, all}
 use Rattle.purse.specs.Purse.{zeroPurse, wellFormed}
@@ -21,7 +21,7 @@ use Rattle.rules.specs.Bench.{called}
 use Rattle.rules.specs.Laid.{heldOk, heldOpening, heldClaims}
 use Rattle.table.specs.Records.{standing, collected, etherAlone, archiveAlone, deskOk, messageBeside, entryBeside, namesOk, purseBeside, recordOk, byRecords}
 use Rattle.table.proofs.Held.{held-by-records, is-used}
-use Rattle.lending.specs.Lent.{held, leftBy, copiedOf, replacedOf}
+use Rattle.records.specs.Lent.{held, leftBy, copiedOf, replacedOf}
 
 -- where a call g refuses another length with 2, its answer on the copy, stored, is its answer on the lent table
 pub stored-whole : (g : Held → Answered) (l : List Purse) (d : Desk) → (eqb (length l) 32 ≡ false → g (held l d) ≡ record { answer = 2; held = held l d }) → replacedOf l d (g (held (copiedOf l) d)) ≡ leftBy (g (held l d))
@@ -34,6 +34,13 @@ opening-refuses l d ns p = rw p
 
 pub opening-lent : (l : List Purse) (d : Desk) (ns : List ℕ) → replacedOf l d (heldOpening (held (copiedOf l) d) ns) ≡ leftBy (heldOpening (held l d) ns)
 opening-lent l d ns = stored-whole (λ (h : Held). heldOpening h ns) l d (opening-refuses l d ns)
+
+-- a table that obeys the rules has 32 records
+pub long-is : (l : List Purse) (d : Desk) → heldOk (held l d) ≡ true → length l ≡ 32
+unfolding byRecords
+long-is l d w =
+    let by-records : byRecords (held l d) ≡ true = sym (held-by-records (held l d)) ∙ w in
+    eqb-true (length l) 32 (and-l (eqb (length l) 32) (deskOk d) (and-l (eqb (length l) 32 && deskOk d) (every 32 (λ (i : ℕ). recordOk d i (getD l i zeroPurse))) by-records))
 
 some-purse : (d : Desk) → deskOk d ≡ true → 1 ≤ d .purses
 unfolding deskOk

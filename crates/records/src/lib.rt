@@ -1,5 +1,5 @@
-// The records of a lent table, all of them: tested, copied out to be worked on by value, and replaced.
-use crate::Reply;
+// The records of a lent table, all of them: tested, copied out to be worked on by value, and replaced. "The bench owns a table of 32 purse records,
+// lent to each call."
 use desk::Answered;
 use desk::Desk;
 use purse::Purse;
@@ -9,7 +9,14 @@ ghost use mathlib.Core.Path.{_≡_};
 ghost use lib.ListN.{replicate};
 ghost use Rattle.purse.specs.Purse.{zeroPurse};
 ghost use Rattle.rules.specs.Laid.{heldOk};
-ghost use Rattle.lending.specs.Lent.{held, copiedOf, replacedOf};
+ghost use Rattle.records.specs.Lent.{held, copiedOf, replacedOf};
+
+// What an entry answers, and the desk as it then stands.
+#[repr(C)]
+pub struct Reply {
+    pub answer: u8,
+    pub desk: Desk,
+}
 
 // Whether a lent table and a desk obey the rules: 32 records, the desk alone, then each record beside the desk.
 pub fn table_ok(table: &[Purse], desk: Desk) -> bool

@@ -1,4 +1,4 @@
--- `lending::records::copied` meets its contract: a walk of its MIR, by hand. The lent records are looked into and the local table lies open, record
+-- `records::copied` meets its contract: a walk of its MIR, by hand. The lent records are looked into and the local table lies open, record
 -- by record; a turn of the loop copies one record over (`over`), and after 32 turns the local table is the lent one. Assumes nothing.
 use mathlib.Core.Path.{_≡_, refl, sym, ap, _∙_}
 use mathlib.Core.Bool.{Bool, true, false, not}
@@ -45,21 +45,21 @@ use denote.Triple.Walked.{says, Stays, stay-none-slice, walkOf, goes-none-slice,
 use denote.Exit.{yes}
 use Rattle.purse.specs.declared.Purse.{Purse}
 use Rattle.purse.specs.Purse.{zeroPurse}
-use Rattle.lending.specs.Lent.{copiedOf}
+use Rattle.records.specs.Lent.{copiedOf}
 use Rattle.lent.proofs.Lent.{after, while-test, if-test, gone, place-of, place-is, if-false, not-not, to-raw, from-raw, opens-array, shuts-array}
 use Rattle.lent.proofs.Over.{over, over-length, over-next, over-all}
-use Rattle.lending.proofs.Structs.{pval, psize, Table, table-typed, table-makes}
-use Rattle.lending.proofs.Calls.{UnusedC, calls-unused}
+use Rattle.records.proofs.Structs.{pval, psize, Table, table-typed, table-makes}
+use Rattle.records.proofs.Calls.{UnusedC, calls-unused}
 use Rattle.purse.proofs.Purse as T
 use Rattle.purse.proofs.Purse.Laws as T′
-use Rattle.lending.proofs.records.unused.Symbol as unused-def
-use Rattle.lending.proofs.records.unused.Symbol.{name as #lending·records·unused}
-use Rattle.lending.proofs.records.unused.Met as unused-thm
-use Rattle.lending.proofs.records.copied.Key.{name as #lending·records·copied}
-use Rattle.lending.proofs.records.copied as f
-use Rattle.lending.proofs.records.copied.Statement as stated
-use Rattle.lending.proofs.records.copied.Code as code
-use Rattle.lending.proofs.records.copied.Code.Mir as mir
+use Rattle.records.proofs.unused.Symbol as unused-def
+use Rattle.records.proofs.unused.Symbol.{name as #records·unused}
+use Rattle.records.proofs.unused.Met as unused-thm
+use Rattle.records.proofs.copied.Key.{name as #records·copied}
+use Rattle.records.proofs.copied as f
+use Rattle.records.proofs.copied.Statement as stated
+use Rattle.records.proofs.copied.Code as code
+use Rattle.records.proofs.copied.Code.Mir as mir
 
 other-length : (l r : List Purse) → r ≡ replicate 32 zeroPurse → eqb (length l) 32 ≡ false → r ≡ copiedOf l
 unfolding copiedOf
@@ -121,7 +121,7 @@ module _ {M : Type 1} (𝓤 : URA M) (H : Heap 𝓤) (A : Atoms 𝓤) (W : Given
   Nearer-wf : WellFounded Nearer
   Nearer-wf = InvImage·wf (λ (i : Upto). 32 - i .0) (Nat·lt-wfRel .wf)
 
-  module _ (𝓣 : Tables 𝓤 H) (known : Triple 𝓤 (𝓣 .C #lending·records·unused) (UnusedC 𝓤 H A at-mem run)) where
+  module _ (𝓣 : Tables 𝓤 H) (known : Triple 𝓤 (𝓣 .C #records·unused) (UnusedC 𝓤 H A at-mem run)) where
     abbrev C : Calls 𝓤 H
     C = 𝓣 .C
 
@@ -250,7 +250,7 @@ module _ {M : Type 1} (𝓤 : URA M) (H : Heap 𝓤) (A : Atoms 𝓤) (W : Given
         move ! (28 ∷ 29 ∷ 26 ∷ 27 ∷ 24 ∷ 25 ∷ 22 ∷ 23 ∷ 20 ∷ 21 ∷ 18 ∷ 19 ∷ 16 ∷ 17 ∷ 14 ∷ 15 ∷ 12 ∷ 13 ∷ 10 ∷ 11 ∷ 8 ∷ 9 ∷ 6 ∷ 7 ∷ 4 ∷ 5 ∷ 2 ∷ 3 ∷ 0 ∷ 1 ∷ []) $
         calls-unused ! at-mem run (fmOf 𝓤 H (W .laws) 𝓣) known (no-more !) (λ v r is e. land ! (from ! (stop !)) (init ! 10 refl (table-typed 𝓤 H A W r v is)) $ body l₀ l₁ l₂ l₃ l₄ l₅ l₆ l₇ l₈ l₉ l₁₀ l₁₁ l₁₂ l₁₃ v r is e)))))))))))))))
 
-copied-meets : {M : Type 1} (𝓤 : URA M) (H : Heap 𝓤) (A : Atoms 𝓤) (W : Given 𝓤 H A) (at-mem : Memory → SProp 𝓤) (run : Routine → Fun 𝓤) (𝓣 : Tables 𝓤 H) → Triple 𝓤 (𝓣 .C #lending·records·unused) (UnusedC 𝓤 H A at-mem run)
+copied-meets : {M : Type 1} (𝓤 : URA M) (H : Heap 𝓤) (A : Atoms 𝓤) (W : Given 𝓤 H A) (at-mem : Memory → SProp 𝓤) (run : Routine → Fun 𝓤) (𝓣 : Tables 𝓤 H) → Triple 𝓤 (𝓣 .C #records·unused) (UnusedC 𝓤 H A at-mem run)
     → Meets 𝓤 H A f.signature (WpFn 𝓤 H (𝓣 .C) (𝓣 .Λ) code.function) (f.spec 𝓤 H A at-mem run)
 copied-meets 𝓤 H A W at-mem run 𝓣 known =
     walk-meets 𝓤 H A f.ended stayed W (goes-none-slice 𝓤 H A W 1 (0 ∷ []) tt (plain (λ _. T.the-row)) yes, tt) (f.clauses 𝓤 H A at-mem run)
@@ -262,6 +262,6 @@ pub copied-spec : {M : Type 1} → stated.statement M
 unfolding code.routine tablesOf
 copied-spec 𝓤 H 𝓜 𝓖 𝓡 =
     entered 𝓤 H (tripleOf 𝓤 H (𝓖 .A) f.signature (f.spec 𝓤 H (𝓖 .A) (𝓜 .mem) (𝓡 .run)))
-    (tables 𝓤 H 𝓜 𝓡 code.env .C) (tables 𝓤 H 𝓜 𝓡 code.env .Λ) #lending·records·copied code.function (code.unfolded 𝓤 H 𝓜 𝓡)
+    (tables 𝓤 H 𝓜 𝓡 code.env .C) (tables 𝓤 H 𝓜 𝓡 code.env .Λ) #records·copied code.function (code.unfolded 𝓤 H 𝓜 𝓡)
     (copied-meets 𝓤 H (𝓖 .A) (givenOf 𝓤 H 𝓜 𝓖) (𝓜 .mem) (𝓡 .run) (tablesOf 𝓤 H 𝓜 (tables 𝓤 H 𝓜 𝓡 code.env))
-    (cited 𝓤 H (UnusedC 𝓤 H (𝓖 .A) (𝓜 .mem) (𝓡 .run)) 𝓜 𝓡 code.env #lending·records·unused unused-def.routine code.calls-lending·records·unused (unused-thm.met 𝓤 H 𝓜 𝓖 𝓡)))
+    (cited 𝓤 H (UnusedC 𝓤 H (𝓖 .A) (𝓜 .mem) (𝓡 .run)) 𝓜 𝓡 code.env #records·unused unused-def.routine code.calls-records·unused (unused-thm.met 𝓤 H 𝓜 𝓖 𝓡)))

@@ -9,7 +9,7 @@ use Rattle.purse.specs.Purse.{zeroPurse}
 use Rattle.desk.specs.declared.Desk.{Desk}
 use Rattle.desk.specs.declared.Held.{Held}
 use Rattle.desk.specs.declared.Answered.{Answered}
-use Rattle.lending.specs.declared.Reply.{Reply}
+use Rattle.records.specs.declared.Reply.{Reply}
 
 -- a lent table and a desk
 abbrev pub held : List Purse → Desk → Held

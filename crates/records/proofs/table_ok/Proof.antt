@@ -1,4 +1,4 @@
--- `lending::records::table_ok` meets its contract: a walk of its MIR, by hand. The lent records are looked into; after i turns of the loop `ok` says that the
+-- `records::table_ok` meets its contract: a walk of its MIR, by hand. The lent records are looked into; after i turns of the loop `ok` says that the
 -- desk and the first i records obey the rules. Of the desk nothing is kept at exit (`stay-dropped`): it is plain data. Assumes nothing.
 use mathlib.Core.Path.{_≡_, refl, sym, ap, _∙_}
 use mathlib.Core.Bool.{Bool, true, false, not, _&&_}
@@ -48,13 +48,13 @@ use Rattle.purse.specs.declared.Purse.{Purse}
 use Rattle.purse.specs.Purse.{zeroPurse}
 use Rattle.purse.specs.Lists.{every}
 use Rattle.desk.specs.declared.Desk.{Desk}
-use Rattle.lending.specs.Lent.{held}
+use Rattle.records.specs.Lent.{held}
 use Rattle.rules.specs.Laid.{heldOk}
 use Rattle.table.specs.Records.{deskOk, recordOk, byRecords}
 use Rattle.table.proofs.Held.{held-by-records, more-every}
 use Rattle.lent.proofs.Lent.{after, while-test, if-test, gone, place-of, place-is, if-false, not-not}
-use Rattle.lending.proofs.Structs.{pval, psize, dval}
-use Rattle.lending.proofs.Calls.{DeskOkC, RecordOkC, calls-desk-ok, calls-record-ok}
+use Rattle.records.proofs.Structs.{pval, psize, dval}
+use Rattle.records.proofs.Calls.{DeskOkC, RecordOkC, calls-desk-ok, calls-record-ok}
 use Rattle.purse.proofs.Purse as T
 use Rattle.purse.proofs.Purse.Laws as T′
 use Rattle.desk.proofs.Desk as D
@@ -65,11 +65,11 @@ use Rattle.table.proofs.desk_ok.Met as desk-ok-thm
 use Rattle.table.proofs.record_ok.Symbol as record-ok-def
 use Rattle.table.proofs.record_ok.Symbol.{name as #table·record-ok}
 use Rattle.table.proofs.record_ok.Met as record-ok-thm
-use Rattle.lending.proofs.records.table_ok.Key.{name as #lending·records·table-ok}
-use Rattle.lending.proofs.records.table_ok as f
-use Rattle.lending.proofs.records.table_ok.Statement as stated
-use Rattle.lending.proofs.records.table_ok.Code as code
-use Rattle.lending.proofs.records.table_ok.Code.Mir as mir
+use Rattle.records.proofs.table_ok.Key.{name as #records·table-ok}
+use Rattle.records.proofs.table_ok as f
+use Rattle.records.proofs.table_ok.Statement as stated
+use Rattle.records.proofs.table_ok.Code as code
+use Rattle.records.proofs.table_ok.Code.Mir as mir
 
 -- the desk and the first i records obey the rules
 abbrev upto : List Purse → Desk → ℕ → Bool
@@ -262,7 +262,7 @@ pub table-ok-spec : {M : Type 1} → stated.statement M
 unfolding code.routine tablesOf
 table-ok-spec 𝓤 H 𝓜 𝓖 𝓡 =
     entered 𝓤 H (tripleOf 𝓤 H (𝓖 .A) f.signature (f.spec 𝓤 H (𝓖 .A) (𝓜 .mem) (𝓡 .run)))
-    (tables 𝓤 H 𝓜 𝓡 code.env .C) (tables 𝓤 H 𝓜 𝓡 code.env .Λ) #lending·records·table-ok code.function (code.unfolded 𝓤 H 𝓜 𝓡)
+    (tables 𝓤 H 𝓜 𝓡 code.env .C) (tables 𝓤 H 𝓜 𝓡 code.env .Λ) #records·table-ok code.function (code.unfolded 𝓤 H 𝓜 𝓡)
     (table-ok-meets 𝓤 H (𝓖 .A) (givenOf 𝓤 H 𝓜 𝓖) (𝓜 .mem) (𝓡 .run) (tablesOf 𝓤 H 𝓜 (tables 𝓤 H 𝓜 𝓡 code.env))
     (cited 𝓤 H (DeskOkC 𝓤 H (𝓖 .A) (𝓜 .mem) (𝓡 .run)) 𝓜 𝓡 code.env #table·desk-ok desk-ok-def.routine code.calls-table·desk-ok (desk-ok-thm.met 𝓤 H 𝓜 𝓖 𝓡))
     (cited 𝓤 H (RecordOkC 𝓤 H (𝓖 .A) (𝓜 .mem) (𝓡 .run)) 𝓜 𝓡 code.env #table·record-ok record-ok-def.routine code.calls-table·record-ok (record-ok-thm.met 𝓤 H 𝓜 𝓖 𝓡)))
