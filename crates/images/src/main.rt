@@ -7,7 +7,8 @@ use desk::Held;
 use libc::STDIN_FILENO;
 use libc::STDOUT_FILENO;
 use purse::Purse;
-ghost use Prim.Native.Nat.{_≤_};
+ghost use mathlib.Core.Path.{_≡_};
+ghost use Prim.Native.Nat.{_≤_, _<_};
 ghost use lib.ListN.{length};
 
 // How many readings answered 0, 2, 16, 17 and 18.
@@ -136,6 +137,12 @@ fn each_changed(held: Held, bytes: &mut [u8]) {
     }
 }
 
+fn wide(x: u8) -> usize
+    ensures { λ r. ⌜ (r ≡ x) × (r < 256) ⌝ }
+{
+    x as usize
+}
+
 // Where the image ends whose length stands at a place; the place itself where no whole image follows.
 fn end_at(input: &[u8], at: usize) -> usize
     requires { ⌜ at ≤ length (now input) ⌝ }
@@ -145,7 +152,7 @@ fn end_at(input: &[u8], at: usize) -> usize
     if left < 2 {
         return at;
     }
-    let n = (input[at] as usize) * 256 + (input[at + 1] as usize);
+    let n = wide(input[at]) * 256 + wide(input[at + 1]);
     if left - 2 < n {
         return at;
     }
