@@ -167,7 +167,7 @@ fn all(input: &mut [u8]) {
     let mut from: usize = 0;
     let mut at: usize = 0;
     let mut end = end_at(input, 0);
-    while at + 2 <= end {
+    while end - at >= 2 {
         from = at + 2;
         held = tried(held, &input[from..end]);
         at = end;

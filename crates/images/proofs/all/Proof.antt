@@ -1,3 +1,5 @@
+use Prim.Native.Nat.{_≤_, _-_}
+use lib.ListN.{length}
 use borrow.Author.Needs.{needs}
 use Rattle.images.proofs.all.Statement.{statement}
 use Rattle.images.proofs.all.Tie as tie
@@ -10,10 +12,10 @@ use Rattle.images.proofs.shown.Reads as shown-reads
 use Rattle.images.proofs.tried.Reads as tried-reads
 
 abbrev Inv-loop : tie.InvT-loop
-Inv-loop input held₀ short from₀ at₀ end₀ t8 held from at end = ?
+Inv-loop input held₀ short from₀ at₀ end₀ t8 held from at end = (from ≤ at) × (at ≤ end) × (end ≤ length input)
 
 abbrev μ-loop : tie.MeasureT-loop
-μ-loop input held₀ short from₀ at₀ end₀ t8 held from at end = ?
+μ-loop input held₀ short from₀ at₀ end₀ t8 held from at end = length input - at
 
 -- src/main.rt:164:9
 none-requires : tie.Need-none-requires Inv-loop μ-loop
@@ -37,11 +39,11 @@ end-at-requires c κs = search needs
 
 -- src/main.rt:170:5
 loop-holds : tie.Need-loop-holds Inv-loop μ-loop
-loop-holds c = ?
+loop-holds c = search needs
 
 -- src/main.rt:170:11
-add-loop : tie.Need-add-loop Inv-loop μ-loop
-add-loop c = search needs
+sub-loop : tie.Need-sub-loop Inv-loop μ-loop
+sub-loop c = search needs
 
 -- src/main.rt:171:16
 add-from : tie.Need-add-from Inv-loop μ-loop
@@ -73,7 +75,7 @@ loop-less c = search needs
 
 -- src/main.rt:170:5
 loop-again : tie.Need-loop-again Inv-loop μ-loop
-loop-again c = ?
+loop-again c = search needs
 
 -- src/main.rt:176:17
 slice-aggregate-shown-3 : tie.Need-slice-aggregate-shown-3 Inv-loop μ-loop
@@ -109,7 +111,7 @@ same-length c = search needs
 
 -- src/main.rt:163:1
 returns : tie.Need-returns Inv-loop μ-loop
-returns c = cc
+returns c = search needs
 
 pub all-spec : {M : Type 1} → statement M
 all-spec =
@@ -123,7 +125,7 @@ all-spec =
     shown-requires
     end-at-requires
     loop-holds
-    add-loop
+    sub-loop
     add-from
     sub-tried
     part-tried-start
