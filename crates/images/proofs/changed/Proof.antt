@@ -1,15 +1,11 @@
+-- `images::changed` is safe and ends. The loop's invariant: `step` is at most 255, and the image keeps its length, so the place stays inside it.
+-- The measure is what is left of the 255 steps. Assumes nothing.
 use Prim.Native.Nat.{_≤_, _-_}
 use mathlib.Core.Path.{_≡_}
 use lib.ListN.{length}
 use borrow.Author.Needs.{needs}
 use Rattle.images.proofs.changed.Statement.{statement}
 use Rattle.images.proofs.changed.Tie as tie
-use Rattle.images.proofs.changed.Reads as reads
-use Rattle.images.proofs.changed.Lts as lts
-use Rattle.image.proofs.read.Reads as read-reads
-use Rattle.images.proofs.counted.Reads as counted-reads
-use Rattle.images.proofs.number.Reads as number-reads
-use Rattle.std.proofs.num.wrapping_add_u8.Reads as wrapping-add-u8-reads
 
 abbrev Inv-loop : tie.InvT-loop
 Inv-loop held bytes₀ at was t₀ step₀ t9 t10 t11 t12 t13 bytes t step = (step ≤ 255) × (length bytes ≡ length bytes₀)
@@ -17,95 +13,72 @@ Inv-loop held bytes₀ at was t₀ step₀ t9 t10 t11 t12 t13 bytes t step = (st
 abbrev μ-loop : tie.MeasureT-loop
 μ-loop held bytes₀ at was t₀ step₀ t9 t10 t11 t12 t13 bytes t step = 255 - step
 
--- src/main.rt:105:19
 slice-read-was : tie.Need-slice-read-was Inv-loop μ-loop
 slice-read-was c = search needs
 
--- src/main.rt:114:9
 loop-holds : tie.Need-loop-holds Inv-loop μ-loop
 loop-holds c = search needs
 
--- src/main.rt:115:13
 add-step : tie.Need-add-step Inv-loop μ-loop
 add-step c = search needs
 
--- src/main.rt:116:25
 wrapping-add-u8-requires : tie.Need-wrapping-add-u8-requires Inv-loop μ-loop
 wrapping-add-u8-requires c κs = search needs
 
--- src/main.rt:116:13
 slice-write-bytes : tie.Need-slice-write-bytes Inv-loop μ-loop
 slice-write-bytes c = search needs
 
--- src/main.rt:117:17
 read-requires : tie.Need-read-requires Inv-loop μ-loop
 read-requires c κs = search needs
 
--- src/main.rt:119:13
 counted-requires : tie.Need-counted-requires Inv-loop μ-loop
 counted-requires c κs = search needs
 
--- src/main.rt:114:9
 loop-less : tie.Need-loop-less Inv-loop μ-loop
 loop-less c = search needs
 
--- src/main.rt:114:9
 loop-again : tie.Need-loop-again Inv-loop μ-loop
 loop-again c = search needs
 
--- src/main.rt:121:9
 slice-write-bytes-2 : tie.Need-slice-write-bytes-2 Inv-loop μ-loop
 slice-write-bytes-2 c = search needs
 
--- src/main.rt:122:24
 slice-aggregate-number : tie.Need-slice-aggregate-number Inv-loop μ-loop
 slice-aggregate-number c = search needs
 
--- src/main.rt:122:9
 number-requires : tie.Need-number-requires Inv-loop μ-loop
 number-requires c κs = search needs
 
--- src/main.rt:123:25
 slice-aggregate-number-2 : tie.Need-slice-aggregate-number-2 Inv-loop μ-loop
 slice-aggregate-number-2 c = search needs
 
--- src/main.rt:123:9
 number-requires-2 : tie.Need-number-requires-2 Inv-loop μ-loop
 number-requires-2 c κs = search needs
 
--- src/main.rt:124:26
 slice-aggregate-number-3 : tie.Need-slice-aggregate-number-3 Inv-loop μ-loop
 slice-aggregate-number-3 c = search needs
 
--- src/main.rt:124:9
 number-requires-3 : tie.Need-number-requires-3 Inv-loop μ-loop
 number-requires-3 c κs = search needs
 
--- src/main.rt:125:24
 slice-aggregate-number-4 : tie.Need-slice-aggregate-number-4 Inv-loop μ-loop
 slice-aggregate-number-4 c = search needs
 
--- src/main.rt:125:9
 number-requires-4 : tie.Need-number-requires-4 Inv-loop μ-loop
 number-requires-4 c κs = search needs
 
--- src/main.rt:126:27
 slice-aggregate-number-5 : tie.Need-slice-aggregate-number-5 Inv-loop μ-loop
 slice-aggregate-number-5 c = search needs
 
--- src/main.rt:126:9
 number-requires-5 : tie.Need-number-requires-5 Inv-loop μ-loop
 number-requires-5 c κs = search needs
 
--- src/main.rt:103:1
 same-length : tie.Need-same-length Inv-loop μ-loop
 same-length c = search needs
 
--- src/main.rt:103:1
 returns : tie.Need-returns Inv-loop μ-loop
 returns c = search needs
 
--- src/main.rt:103:1
 returns-2 : tie.Need-returns-2 Inv-loop μ-loop
 returns-2 c = search needs
 
