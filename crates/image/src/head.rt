@@ -10,8 +10,6 @@ ghost use Rattle.purse.specs.Tests.{first};
 ghost use Rattle.layout.specs.Bytes.{put};
 ghost use Rattle.layout.specs.Head.{headBytes, headTests, imageLength};
 
-pub const LENGTH: usize = 10;
-
 pub const VERSION: u16 = 1;
 
 // How long an image of so many purses, messages and entries is.

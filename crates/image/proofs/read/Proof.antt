@@ -1,3 +1,5 @@
+-- `image::read` meets its contract. The number found is the definition's; the table that is handed in has 32 records by its type.
+-- Assumes nothing.
 use mathlib.Core.Path.{_≡_, sym, ap, _∙_}
 use lib.ListN.{length, length-map}
 use Rattle.rules.specs.Laid.{heldOk}

@@ -1,3 +1,5 @@
+-- `image::write` meets its contract. The number found is the definition's; then the image is put, or nothing is.
+-- Assumes nothing.
 use mathlib.Core.Path.{_≡_, sym, _∙_}
 use Rattle.layout.specs.Calls.{writeNumber}
 use Rattle.image.proofs.Calls.{write-number, writes, wrote, wrote-nothing}

@@ -1,3 +1,5 @@
+-- `image::head::head_number` meets its contract. Past the first test the others are taken one by one, top to bottom, and so find the first that applies.
+-- Assumes nothing.
 use mathlib.Core.Path.{_∙_}
 use lib.ListN.{length}
 use borrow.Author.Tests.{lt-ltb, le-ltb}

@@ -1,3 +1,5 @@
+-- `image::head::put_head` meets its contract. The seven parts are put one after the other.
+-- Assumes nothing.
 use native.Mathlib.Omega.{arith}
 use Rattle.layout.specs.Bytes.{big}
 use Rattle.image.proofs.Puts.{then-put}

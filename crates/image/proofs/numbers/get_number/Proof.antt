@@ -1,3 +1,5 @@
+-- `image::numbers::get_number` meets its contract. Its sum is that of the definition, byte by byte.
+-- Assumes nothing.
 use native.Mathlib.Omega.{arith}
 use native.Mathlib.Nat.{add-zero}
 use Rattle.layout.specs.Bytes.{numberAt}

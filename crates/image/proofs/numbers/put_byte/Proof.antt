@@ -1,3 +1,5 @@
+-- `image::numbers::put_byte` meets its contract. One store is a run of one byte.
+-- Assumes nothing.
 use mathlib.Core.Path.{refl}
 use Rattle.layout.specs.Bytes.{put}
 use borrow.Author.Needs.{needs}

@@ -1,3 +1,5 @@
+-- `image::numbers::put_count` meets its contract. The two stores are one run of two bytes, the highest first.
+-- Assumes nothing.
 use mathlib.Core.Path.{refl}
 use native.Mathlib.Omega.{arith}
 use native.Mathlib.Numerals.{towards-suc}

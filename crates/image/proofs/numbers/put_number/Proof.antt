@@ -1,3 +1,5 @@
+-- `image::numbers::put_number` meets its contract. The four stores are one run of four bytes, the highest first.
+-- Assumes nothing.
 use mathlib.Core.Path.{refl}
 use native.Mathlib.Omega.{arith}
 use native.Mathlib.Numerals.{towards-suc}

@@ -1,3 +1,5 @@
+-- `image::records::put_details` meets its contract. The five fields are put one after the other, and a run of bytes after another is one run.
+-- Assumes nothing.
 use mathlib.Core.Path.{refl}
 use native.Mathlib.Omega.{arith}
 use Rattle.layout.specs.Bytes.{big}

@@ -1,3 +1,5 @@
+-- `image::records::put_entry` meets its contract. The logging purse and the details are put one after the other.
+-- Assumes nothing.
 use native.Mathlib.Omega.{arith}
 use Rattle.layout.specs.Records.{entryBytes}
 use Rattle.image.proofs.Puts.{then-put}

@@ -1,3 +1,5 @@
+-- `image::records::put_message` meets its contract. The kind and the details are put one after the other.
+-- Assumes nothing.
 use native.Mathlib.Omega.{arith}
 use Rattle.layout.specs.Records.{messageBytes}
 use Rattle.image.proofs.Puts.{then-put}

@@ -1,3 +1,5 @@
+-- `image::records::put_purse` meets its contract. The six parts are put one after the other.
+-- Assumes nothing.
 use native.Mathlib.Omega.{arith}
 use lib.ListN.{length-append}
 use Rattle.layout.specs.Bytes.{big}

@@ -1,3 +1,5 @@
+-- `image::writing::put_bench` meets its contract. Head, purses, messages and entries are put one after the other; a well-formed bench's image is as long as its counts say.
+-- Assumes nothing.
 use mathlib.Core.Path.{_∙_}
 use mathlib.Core.List.{append-assoc}
 use lib.ListN.{length-append}
