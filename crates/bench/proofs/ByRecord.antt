@@ -2,16 +2,16 @@
 -- Why: on lists laid out in their places a read, a store, a message more or less and an entry more are those of the lists (the laws of
 -- Padded), and each kind's tests are the same numbers; a refusal puts back the record that was read.
 -- Assumes nothing.
-use Prim.Native.Nat.{ℕ, suc, _+_, _-_, _<_, _≤_}
-use mathlib.Core.Path.{_≡_, refl, _∙_, sym, ap}
-use mathlib.Core.Bool.{Bool, true, false, _&&_, cond}
+use Prim.Native.Nat.{ℕ, suc, _+_, _-_, _<_}
+use mathlib.Core.Path.{_≡_, _∙_, sym, ap}
+use mathlib.Core.Bool.{true, false}
 use mathlib.Core.Logic.{⊎-elim}
 use mathlib.Core.List.{List, [], _∷_, _++_}
 use lib.ListN.{length, getD, take, drop, set, length-set, length-append, length-drop}
 use lib.Seq.{set-getD, length-take-le}
 use lib.Dec.{ltb, leb, eqb}
 use native.Mathlib.Omega.{arith}
-use borrow.Author.Tests.{leb-true, leb-false, ltb-true, ltb-false, le-leb, lt-ltb, eqb-true}
+use borrow.Author.Tests.{leb-true, leb-false, ltb-true, le-leb, lt-ltb}
 use Rattle.purse.specs.declared.Name.{Name}
 use Rattle.purse.specs.declared.Message.{Message}
 use Rattle.purse.specs.declared.Purse.{Purse}
@@ -23,7 +23,7 @@ use Rattle.purse.specs.Tests.{first}
 use Rattle.purse.specs.Details.{zeroMessage}
 use Rattle.purse.specs.Purse.{zeroPurse}
 use Rattle.purse.specs.Card.{stepBy}
-use Rattle.purse.proofs.Bools.{and-r, which}
+use Rattle.purse.proofs.Bools.{which}
 use Rattle.purse.proofs.Padded.{set-padded, push-padded, pull-padded, read-padded}
 use Rattle.desk.specs.declared.Entry.{Entry}
 use Rattle.desk.specs.declared.Desk.{Desk}
@@ -32,14 +32,12 @@ use Rattle.desk.specs.declared.Answered.{Answered}
 use Rattle.desk.specs.Desk.{zeroEntry, added, takenOut, stored}
 use Rattle.rules.specs.declared.Event.{Event}
 use Rattle.rules.specs.declared.Event.the-variants.{Malformed, StartFrom, StartTo, Deliver, Abort, Lose, Collect}
-use Rattle.rules.specs.Bench.{Bench, called, purseAt, messageAt}
-use Rattle.rules.specs.Table.{tableOk}
+use Rattle.rules.specs.Bench.{Bench, purseAt, messageAt}
 use Rattle.rules.specs.Events.{decoded}
-use Rattle.rules.specs.Steps.{Answer, refused, withPurse, withMessages, withArchive, sending, carried, archiving, told, starting, delivering, aborting, losing, collecting, acting}
-use Rattle.rules.specs.Laid.{laid, seen, placesOk, isZeroPurse, isZeroMessage, isZeroEntry, heldOk, heldStep}
-use Rattle.rules.proofs.Places.{laid-seen}
+use Rattle.rules.specs.Steps.{Answer, withPurse, sending, carried, archiving, told, starting, delivering, aborting, losing, collecting, acting}
+use Rattle.rules.specs.Laid.{laid, seen, heldOk, heldStep}
+use Rattle.rules.proofs.Places.{seen-ok, laid-seen}
 use Rattle.rules.proofs.Facts.{Table, is-table}
-use Rattle.bench.specs.declared.Acted.{Acted}
 use Rattle.bench.specs.Acts.{placeIn, placeOf, refusedOn, startTests, deliverTests, purseTests, loseTests, sentOn, carriedOn, toldOn, lostOn, archivedOn, collectedOn, actOn, putBack, byRecord}
 
 -- an answer on the lists, laid out
@@ -235,20 +233,10 @@ acts b t (Abort own) = aborts b t own
 acts b t (Lose i) = loses b t i
 acts b t (Collect own) = collects b t own
 
--- the rules of the lists hold of a table that is well formed
-pub held-table : (h : Held) → heldOk h ≡ true → tableOk (seen h) ≡ true
-unfolding heldOk
-held-table h w =
-    and-r
-    (placesOk isZeroPurse 32 (h .desk .purses) (h .table)
-    && placesOk isZeroMessage 256 (h .desk .ether .count) (h .desk .ether .places)
-    && placesOk isZeroEntry 256 (h .desk .archive .count) (h .desk .archive .places))
-    (tableOk (seen h)) w
-
 pub step-by-record : (h : Held) (l : List ℕ) → heldOk h ≡ true → heldStep h l ≡ byRecord h (decoded l)
 unfolding heldStep
 step-by-record h l w =
-    let t : Table (seen h) = is-table (seen h) (held-table h w) in
+    let t : Table (seen h) = is-table (seen h) (seen-ok h w) in
     rw w (acts (seen h) t (decoded l) ∙ ap (λ (x : Held). byRecord x (decoded l)) (laid-seen h w))
 
 -- the place is one of the table's

@@ -12,7 +12,6 @@ use Rattle.purse.specs.Lists.{padded}
 use Rattle.purse.specs.Purse.{zeroPurse}
 use Rattle.purse.proofs.Padded.{push-padded}
 use Rattle.desk.specs.declared.Desk.{Desk}
-use Rattle.desk.specs.declared.Held.{Held}
 use Rattle.desk.specs.Desk.{openedDesk}
 use Rattle.rules.specs.Run.{openedAt, opened}
 use Rattle.rules.specs.Laid.{laid}

@@ -1,19 +1,19 @@
 -- The claims figure, one pass over the archive, is the sum over the purses of what each may claim.
 -- Why: an entry adds its amount for its payer alone, and each payer is a purse of the table, so that each entry is counted once.
 -- Assumes nothing.
-use Prim.Native.Nat.{ℕ, _+_, _*_, _<_, _≤_}
+use Prim.Native.Nat.{ℕ, _+_, _<_, _≤_}
 use mathlib.Core.Path.{_≡_, refl, _∙_, sym, ap}
 use mathlib.Core.Bool.{Bool, true, false, _&&_, _||_, cond}
 use mathlib.Core.Logic.{⊎-elim}
 use mathlib.Core.List.{List, [], _∷_}
-use lib.ListN.{length, getD, take, drop, drop-of-length-le}
+use lib.ListN.{length, getD, drop, drop-of-length-le}
 use lib.Seq.{drop-cons, length-take-le, getD-take}
 use lib.Dec.{ltb, leb, eqb}
 use native.Mathlib.Numerals.{add-one}
 use native.Mathlib.Omega.{arith}
 use borrow.Author.Tests.{eqb-true, lt-ltb, le-leb, leb-true}
 use Rattle.purse.specs.declared.Details.{Details}
-use Rattle.purse.specs.Lists.{all, every, among, distinct, keep, total, sumTo}
+use Rattle.purse.specs.Lists.{all, every, among, distinct, keep, total}
 use Rattle.purse.specs.Details.{sameDetails, sameMessage}
 use Rattle.purse.proofs.Bools.{and-l, and-r, which}
 use Rattle.purse.proofs.Payments.{is-named, entry-named}
@@ -22,14 +22,14 @@ use Rattle.desk.specs.declared.Entry.{Entry}
 use Rattle.desk.specs.declared.Archive.{Archive}
 use Rattle.desk.specs.declared.Held.{Held}
 use Rattle.desk.specs.Desk.{zeroEntry}
-use Rattle.rules.specs.Bench.{Bench, purseAt, archivedBy}
+use Rattle.rules.specs.Bench.{Bench, archivedBy}
 use Rattle.rules.specs.Table.{tableOk, countsOk, purseOk, messageOk, archiveOk, onceOk, clearOk, inTable}
 use Rattle.rules.specs.Paid.{amountOf, claimedWith, claims}
 use Rattle.rules.specs.Laid.{seen, placesOk, isZeroPurse, isZeroMessage, isZeroEntry, heldOk}
 use Rattle.rules.proofs.Facts.{is-in}
+use Rattle.rules.proofs.Places.{seen-ok}
 use Rattle.table.proofs.Walks.{all-at, all-each}
 use Rattle.bench.specs.Claims.{archived, hit, claimOf, bounded}
-use Rattle.bench.proofs.ByRecord.{held-table}
 
 module _ (a : Archive) (long : length (a .places) ≡ 256) (few : a .count ≤ 256) (i : ℕ) where
   archived-length : length (archived a) ≡ a .count
@@ -137,7 +137,7 @@ module _ (h : Held) (w : heldOk h ≡ true) where
   here = seen h
 
   entries : all (archiveOk here) (here .archive) ≡ true
-  entries = entries-ok here (held-table h w)
+  entries = entries-ok here (seen-ok h w)
 
   pub held-few : h .desk .archive .count ≤ 256
   unfolding heldOk

@@ -1,4 +1,4 @@
--- The claims figure as one pass over the archive makes it: what each entry adds. That it is the sum over the purses is `claims-once`.
+-- The claims figure as a single pass over the archive makes it: what each entry adds. That it is the sum over the purses is `claims-once`.
 use Prim.Native.Nat.{ℕ}
 use mathlib.Core.Bool.{Bool, _&&_, cond}
 use mathlib.Core.List.{List}

@@ -32,8 +32,18 @@ pub fn place_of(event: Event) -> usize
 {
     match event {
         Event::Malformed => 0,
-        Event::StartFrom { purse, other: _, seq: _, amount: _ } => place_in(purse),
-        Event::StartTo { purse, other: _, seq: _, amount: _ } => place_in(purse),
+        Event::StartFrom {
+            purse,
+            other: _,
+            seq: _,
+            amount: _,
+        } => place_in(purse),
+        Event::StartTo {
+            purse,
+            other: _,
+            seq: _,
+            amount: _,
+        } => place_in(purse),
         Event::Deliver { purse, place: _ } => place_in(purse),
         Event::Abort { purse } => place_in(purse),
         Event::Lose { place: _ } => 0,
@@ -81,7 +91,11 @@ fn message_at(ether: Ether, place: u32) -> Message
     ensures { λ r. ⌜ r ≡ getD (ether .places) place zeroMessage ⌝ }
 {
     let at = place as usize;
-    if at < 256 { ether.places[at] } else { Message::zero() }
+    if at < 256 {
+        ether.places[at]
+    } else {
+        Message::zero()
+    }
 }
 
 // The message sent, where there is one: answer 1 where it is lost.
@@ -221,11 +235,27 @@ pub fn act(p: Purse, desk: Desk, event: Event) -> Acted
             purse: p,
             desk: desk,
         },
-        Event::StartFrom { purse, other, seq, amount } => {
+        Event::StartFrom {
+            purse,
+            other,
+            seq,
+            amount,
+        } => {
             let n = start_number(desk, purse, other);
-            tell(n, p, desk, purse, CardEvent::StartFrom { other, seq, amount })
+            tell(
+                n,
+                p,
+                desk,
+                purse,
+                CardEvent::StartFrom { other, seq, amount },
+            )
         }
-        Event::StartTo { purse, other, seq, amount } => {
+        Event::StartTo {
+            purse,
+            other,
+            seq,
+            amount,
+        } => {
             let n = start_number(desk, purse, other);
             tell(n, p, desk, purse, CardEvent::StartTo { other, seq, amount })
         }

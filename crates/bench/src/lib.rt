@@ -10,6 +10,7 @@ pub mod open; // open.rt: a bench opened
 pub mod owed; // owed.rt: the claims figure
 pub mod runs; // runs.rt: many events
 pub mod step; // step.rt: an event at the whole bench
+
 pub use acts::act;
 pub use acts::place_of;
 pub use open::opening;

@@ -68,10 +68,7 @@ pub fn opening(held: Held, balances: &[u32]) -> Answered
     let n = opening_number(balances);
     if n == 0 {
         let h = opened(balances);
-        Answered {
-            answer: 0,
-            held: h,
-        }
+        Answered { answer: 0, held: h }
     } else {
         Answered {
             answer: n,

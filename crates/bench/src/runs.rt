@@ -56,10 +56,7 @@ pub fn run(held: Held, input: &[u8], answers: &mut [u8]) -> Ran
     let n = smaller(input.len() / 12, answers.len());
     if table::held_ok(held) {
         let h = each(held, input, answers, n);
-        Ran {
-            taken: n,
-            held: h,
-        }
+        Ran { taken: n, held: h }
     } else {
         refuse(answers, n);
         Ran {

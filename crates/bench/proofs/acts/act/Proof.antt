@@ -1,3 +1,6 @@
+-- `bench::acts::act` meets its contract: each arm hands the numbers of its tests to the function of its kind, which is the definition's
+-- line for that kind.
+-- Assumes nothing.
 use Rattle.bench.specs.Acts.{actOn}
 use borrow.Author.Needs.{needs}
 use Rattle.bench.proofs.acts.act.Statement.{statement}

@@ -1,5 +1,7 @@
+-- `bench::acts::archive` meets its contract: 15 is tested after the card's own number, and the entry is stored where neither applies.
+-- Assumes nothing.
 use Rattle.bench.specs.Acts.{archivedOn}
-use borrow.Author.Tests.{ne-eqb, eq-eqb, le-leb, lt-leb}
+use borrow.Author.Tests.{ne-eqb, eq-eqb}
 use borrow.Author.Needs.{needs}
 use Rattle.bench.proofs.acts.archive.Statement.{statement}
 use Rattle.bench.proofs.acts.archive.Tie as tie

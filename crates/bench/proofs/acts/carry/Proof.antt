@@ -1,5 +1,7 @@
+-- `bench::acts::carry` meets its contract: the card's number decides, as in the definition.
+-- Assumes nothing.
 use Rattle.bench.specs.Acts.{carriedOn}
-use borrow.Author.Tests.{ne-eqb, eq-eqb, le-leb, lt-leb}
+use borrow.Author.Tests.{ne-eqb, eq-eqb}
 use borrow.Author.Needs.{needs}
 use Rattle.bench.proofs.acts.carry.Statement.{statement}
 use Rattle.bench.proofs.acts.carry.Tie as tie

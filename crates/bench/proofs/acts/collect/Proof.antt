@@ -1,5 +1,7 @@
+-- `bench::acts::collect` meets its contract: the card is told where no test before found a number.
+-- Assumes nothing.
 use Rattle.bench.specs.Acts.{collectedOn}
-use borrow.Author.Tests.{ne-eqb, eq-eqb, le-leb, lt-leb}
+use borrow.Author.Tests.{ne-eqb, eq-eqb}
 use borrow.Author.Needs.{needs}
 use Rattle.bench.proofs.acts.collect.Statement.{statement}
 use Rattle.bench.proofs.acts.collect.Tie as tie

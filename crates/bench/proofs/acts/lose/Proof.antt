@@ -1,5 +1,7 @@
+-- `bench::acts::lose` meets its contract: the ether's own method takes the message out.
+-- Assumes nothing.
 use Rattle.bench.specs.Acts.{lostOn}
-use borrow.Author.Tests.{ne-eqb, eq-eqb, le-leb, lt-leb}
+use borrow.Author.Tests.{ne-eqb, eq-eqb}
 use borrow.Author.Needs.{needs}
 use Rattle.bench.proofs.acts.lose.Statement.{statement}
 use Rattle.bench.proofs.acts.lose.Tie as tie

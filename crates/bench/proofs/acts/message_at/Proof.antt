@@ -1,6 +1,8 @@
+-- `bench::acts::message_at` meets its contract: past the last place a list gives its default, the all-zero message.
+-- Assumes nothing.
 use Rattle.purse.specs.Details.{zeroMessage}
 use lib.ListN.{length, length-map, List·getD-eq-default}
-use mathlib.Core.Path.{_≡_, refl, _∙_, sym, ap}
+use mathlib.Core.Path.{_≡_, _∙_, sym}
 use native.Mathlib.Omega.{arith}
 use borrow.Author.Needs.{needs}
 use Rattle.bench.proofs.acts.message_at.Statement.{statement}
@@ -19,7 +21,7 @@ returns : tie.Need-returns
 returns c = search needs
 
 returns-2 : tie.Need-returns-2
-returns-2 c = 
+returns-2 c =
     let start = c .before .before in
     let long : length (start .args .t1 .places) ≡ 256 = simp length-map at (start .good .0 .1 .1 .0 .1 .0 .1) in
     c .zero .ensures ∙ sym (List·getD-eq-default (start .args .t1 .places) zeroMessage (omega (arith, c .before .if1 .left)))

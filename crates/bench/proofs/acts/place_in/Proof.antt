@@ -1,4 +1,6 @@
-use borrow.Author.Tests.{ne-eqb, eq-eqb, le-leb, lt-leb}
+-- `bench::acts::place_in` meets its contract: a name of 31 or less is its own place.
+-- Assumes nothing.
+use borrow.Author.Tests.{le-leb, lt-leb}
 use borrow.Author.Needs.{needs}
 use Rattle.bench.proofs.acts.place_in.Statement.{statement}
 use Rattle.bench.proofs.acts.place_in.Tie as tie

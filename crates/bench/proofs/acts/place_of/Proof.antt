@@ -1,3 +1,5 @@
+-- `bench::acts::place_of` meets its contract: by the kind of the event.
+-- Assumes nothing.
 use Rattle.bench.specs.Acts.{placeOf}
 use borrow.Author.Needs.{needs}
 use Rattle.bench.proofs.acts.place_of.Statement.{statement}

@@ -1,5 +1,7 @@
+-- `bench::acts::send` meets its contract: the ether's own method adds the message and says whether it was lost.
+-- Assumes nothing.
 use Rattle.bench.specs.Acts.{sentOn}
-use borrow.Author.Tests.{ne-eqb, eq-eqb, le-leb, lt-leb}
+use borrow.Author.Tests.{ne-eqb, eq-eqb}
 use borrow.Author.Needs.{needs}
 use Rattle.bench.proofs.acts.send.Statement.{statement}
 use Rattle.bench.proofs.acts.send.Tie as tie

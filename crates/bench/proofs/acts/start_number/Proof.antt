@@ -1,3 +1,5 @@
+-- `bench::acts::start_number` meets its contract: tests taken one by one find the first that applies.
+-- Assumes nothing.
 use mathlib.Core.Path.{refl}
 use Rattle.bench.specs.Acts.{startTests}
 use Rattle.purse.proofs.Tests.{walks}

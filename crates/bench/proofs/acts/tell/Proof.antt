@@ -1,5 +1,7 @@
+-- `bench::acts::tell` meets its contract: the card's step is what the card promises.
+-- Assumes nothing.
 use Rattle.bench.specs.Acts.{toldOn}
-use borrow.Author.Tests.{ne-eqb, eq-eqb, le-leb, lt-leb}
+use borrow.Author.Tests.{ne-eqb, eq-eqb}
 use borrow.Author.Needs.{needs}
 use Rattle.bench.proofs.acts.tell.Statement.{statement}
 use Rattle.bench.proofs.acts.tell.Tie as tie

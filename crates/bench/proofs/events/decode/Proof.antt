@@ -1,52 +1,40 @@
+-- `bench::events::decode` meets its contract: length and spare byte first, then the fields.
+-- Assumes nothing.
 use borrow.Author.Tests.{eq-eqb, ne-eqb}
 use Rattle.rules.specs.Events.{decoded}
 use borrow.Author.Needs.{needs}
 use Rattle.bench.proofs.events.decode.Statement.{statement}
 use Rattle.bench.proofs.events.decode.Tie as tie
-use Rattle.bench.proofs.events.decode.Reads as reads
-use Rattle.bench.proofs.events.decode.Lts as lts
-use Rattle.bench.proofs.events.fields.Reads as fields-reads
-use Rattle.bench.proofs.events.number.Reads as number-reads
 
--- src/events.rt:86:9
 returns : tie.Need-returns
 unfolding decoded
 returns c = simp (ne-eqb _ 12 (c .if1 .taken))
 
--- src/events.rt:88:8
 shared-slice-read-if2 : tie.Need-shared-slice-read-if2
 shared-slice-read-if2 c = search needs
 
--- src/events.rt:89:9
 returns-2 : tie.Need-returns-2
 unfolding decoded
 returns-2 c = simp (eq-eqb _ 12 (c .before .before .if1 .left), ne-eqb _ 0 (c .if2 .taken))
 
--- src/events.rt:91:9
 number-requires : tie.Need-number-requires
 number-requires c κs = search needs
 
--- src/events.rt:92:9
 number-requires-2 : tie.Need-number-requires-2
 number-requires-2 c κs = search needs
 
--- src/events.rt:93:12
 shared-slice-read-fields : tie.Need-shared-slice-read-fields
 shared-slice-read-fields c = search needs
 
--- src/events.rt:93:22
 shared-slice-read-fields-2 : tie.Need-shared-slice-read-fields-2
 shared-slice-read-fields-2 c = search needs
 
--- src/events.rt:93:32
 shared-slice-read-fields-3 : tie.Need-shared-slice-read-fields-3
 shared-slice-read-fields-3 c = search needs
 
--- src/events.rt:93:5
 fields-requires : tie.Need-fields-requires
 fields-requires c κs = search needs
 
--- src/events.rt:82:1
 returns-3 : tie.Need-returns-3
 unfolding decoded
 returns-3 c =

@@ -40,8 +40,7 @@ returns-11 c = simp (c .match .keys7)
 returns-12 : tie.Need-returns-12
 returns-12 c =
     let no = c .match .rest in
-    simp
-    (
+    simp (
       ne-eqb _ 1 (no .0 .0 .0 .0 .0 .0 .1),
       ne-eqb _ 2 (no .0 .0 .0 .0 .0 .1),
       ne-eqb _ 3 (no .0 .0 .0 .0 .1),

@@ -1,10 +1,12 @@
+-- `bench::open::all_within` meets its contract: the loop's invariant: what is found of the balances passed, and the rest, is the whole.
+-- Assumes nothing.
 use Rattle.bench.specs.Opens.{within}
 use Rattle.table.proofs.Walks.{rest-more, rest-end}
 use Rattle.purse.specs.Lists.{all}
-use lib.ListN.{length, drop, getD}
-use mathlib.Core.Bool.{Bool, _&&_}
-use Prim.Native.Nat.{ℕ, _+_, _*_, _-_, _≤_, _<_}
-use mathlib.Core.Path.{_≡_, refl, _∙_, sym, ap}
+use lib.ListN.{length, drop}
+use mathlib.Core.Bool.{_&&_}
+use Prim.Native.Nat.{_-_, _≤_}
+use mathlib.Core.Path.{_≡_, refl}
 use native.Mathlib.Omega.{arith}
 use borrow.Author.Needs.{needs}
 use Rattle.bench.proofs.open.all_within.Statement.{statement}
@@ -35,14 +37,14 @@ loop-less : tie.Need-loop-less Inv-loop μ-loop
 loop-less c = search needs
 
 loop-again : tie.Need-loop-again Inv-loop μ-loop
-loop-again c = 
+loop-again c =
     let at-loop = c .before .before .before in
     let bs = at-loop .before .before .args .balances .now in
     let i = at-loop .loop .i in
     (omega arith, rest-more within bs i 0 (at-loop .loop .ok) (omega arith) (at-loop .loop .inv .1) (c .is-within .ensures))
 
 returns : tie.Need-returns Inv-loop μ-loop
-returns c = 
+returns c =
     let at-loop = c .before in
     rest-end within (at-loop .before .before .args .balances .now) (at-loop .loop .i) (at-loop .loop .ok) (omega arith) (at-loop .loop .inv .1)
 

@@ -1,3 +1,5 @@
+-- `bench::open::is_within` meets its contract: the opened purse's own ceiling is read.
+-- Assumes nothing.
 use borrow.Author.Needs.{needs}
 use Rattle.bench.proofs.open.is_within.Statement.{statement}
 use Rattle.bench.proofs.open.is_within.Tie as tie

@@ -1,12 +1,14 @@
+-- `bench::open::opened` meets its contract: the loop's invariant: the table is the purses of the balances passed, zero behind them.
+-- Assumes nothing.
 use Rattle.bench.proofs.OpenedTable.{table-more, opened-laid}
 use Rattle.rules.specs.Run.{openedAt}
 use Rattle.purse.specs.Purse.{zeroPurse}
 use Rattle.purse.specs.Lists.{padded}
 use Rattle.purse.specs.declared.Purse.{Purse}
-use lib.ListN.{length, take, set, getD, replicate}
+use lib.ListN.{length, take, set, replicate}
 use mathlib.Core.List.{List, map}
-use Prim.Native.Nat.{ℕ, _+_, _*_, _-_, _≤_, _<_}
-use mathlib.Core.Path.{_≡_, refl, _∙_, sym, ap}
+use Prim.Native.Nat.{_-_, _≤_}
+use mathlib.Core.Path.{_≡_, _∙_, ap}
 use native.Mathlib.Omega.{arith}
 use borrow.Author.Needs.{needs}
 use Rattle.bench.proofs.open.opened.Statement.{statement}
@@ -46,16 +48,15 @@ loop-less : tie.Need-loop-less Inv-loop μ-loop
 loop-less c = search needs
 
 loop-again : tie.Need-loop-again Inv-loop μ-loop
-loop-again c = 
+loop-again c =
     let at-loop = c .before .before .before in
     let start = at-loop .before .before .before in
     let bs = start .args .balances .now in
-    let i = at-loop .loop .i in
-    (
+    let i = at-loop .loop .i in (
       omega arith,
       ap (λ (t : List Purse). set t i (c .opened .result)) (at-loop .loop .inv .1)
-      ∙ (ap (λ (p : Purse). set (padded 32 zeroPurse (map openedAt (take i bs))) i p) (c .opened .ensures)
-      ∙ table-more bs i (omega arith) (start .pre)),
+          ∙ (ap (λ (p : Purse). set (padded 32 zeroPurse (map openedAt (take i bs))) i p) (c .opened .ensures)
+          ∙ table-more bs i (omega arith) (start .pre)),
     )
 
 cast-opened : tie.Need-cast-opened Inv-loop μ-loop
@@ -65,7 +66,7 @@ opened-requires-2 : tie.Need-opened-requires-2 Inv-loop μ-loop
 opened-requires-2 c κs = search needs
 
 returns : tie.Need-returns Inv-loop μ-loop
-returns c = 
+returns c =
     let at-loop = c .before .before in
     let bs = at-loop .before .before .before .args .balances .now in
     opened-laid bs (at-loop .loop .i) _ _ (omega arith) (at-loop .loop .inv .1) (c .opened2 .ensures)

@@ -1,9 +1,11 @@
+-- `bench::open::opening` meets its contract: a table by value has 32 records, so that 2 never applies.
+-- Assumes nothing.
 use Rattle.rules.proofs.Opened.{opens}
 use Rattle.rules.specs.Laid.{heldOpening}
 use Rattle.rules.specs.Run.{openingNumber}
 use lib.ListN.{length, length-map}
-use mathlib.Core.Path.{_≡_, refl, _∙_, sym, ap}
-use borrow.Author.Tests.{eq-eqb, ne-eqb, le-leb, lt-leb}
+use mathlib.Core.Path.{_≡_, _∙_, sym}
+use borrow.Author.Tests.{eq-eqb, ne-eqb}
 use borrow.Author.Needs.{needs}
 use Rattle.bench.proofs.open.opening.Statement.{statement}
 use Rattle.bench.proofs.open.opening.Tie as tie
@@ -16,7 +18,7 @@ opened-requires c κs = opens _ (sym (c .before .opening-number .ensures) ∙ c 
 
 returns : tie.Need-returns
 unfolding heldOpening
-returns c = 
+returns c =
     let start = c .before .before .before .before in
     let long : length (start .args .held .table) ≡ 32 = simp length-map at (start .good .0 .1 .1 .0 .1 .0 .1) in
     let none : openingNumber (start .args .balances .now) ≡ 0 = sym (c .before .before .opening-number .ensures) ∙ c .before .if1 .taken in
@@ -24,7 +26,7 @@ returns c =
 
 returns-2 : tie.Need-returns-2
 unfolding heldOpening
-returns-2 c = 
+returns-2 c =
     let start = c .before .before .before in
     let long : length (start .args .held .table) ≡ 32 = simp length-map at (start .good .0 .1 .1 .0 .1 .0 .1) in
     let some : (openingNumber (start .args .balances .now) ≡ 0 → ⊥) = λ e. c .if1 .left (c .before .opening-number .ensures ∙ e) in

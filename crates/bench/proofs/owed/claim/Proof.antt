@@ -1,6 +1,8 @@
+-- `bench::owed::claim` meets its contract: its payer logged it, and its payee too.
+-- Assumes nothing.
 use Rattle.bench.specs.Claims.{claimOf}
-use mathlib.Core.Path.{_≡_, refl, _∙_, sym, ap}
-use borrow.Author.Tests.{eq-eqb, ne-eqb, le-leb, lt-leb}
+use mathlib.Core.Path.{_∙_, sym}
+use borrow.Author.Tests.{eq-eqb, ne-eqb}
 use borrow.Author.Needs.{needs}
 use Rattle.bench.proofs.owed.claim.Statement.{statement}
 use Rattle.bench.proofs.owed.claim.Tie as tie

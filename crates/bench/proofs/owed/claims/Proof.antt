@@ -1,7 +1,9 @@
+-- `bench::owed::claims` meets its contract: one pass over the archive is the sum over the purses (`claims-once`).
+-- Assumes nothing.
 use Rattle.bench.proofs.Summed.{held-few, held-bounded, claims-once}
 use Rattle.rules.specs.Laid.{heldOk, heldClaims}
 use mathlib.Core.Bool.{true}
-use mathlib.Core.Path.{_≡_, refl, _∙_, sym, ap}
+use mathlib.Core.Path.{_≡_, _∙_, sym}
 use borrow.Author.Needs.{needs}
 use Rattle.bench.proofs.owed.claims.Statement.{statement}
 use Rattle.bench.proofs.owed.claims.Tie as tie
@@ -10,14 +12,14 @@ held-ok-requires : tie.Need-held-ok-requires
 held-ok-requires c κs = search needs
 
 sum-requires : tie.Need-sum-requires
-sum-requires c κs = 
+sum-requires c κs =
     let h = c .before .before .before .before .args .held in
     let ok : heldOk h ≡ true = sym (c .before .before .before .held-ok .ensures) ∙ c .before .before .if1 .taken in
     (held-few h ok, held-bounded h ok)
 
 returns : tie.Need-returns
 unfolding heldClaims
-returns c = 
+returns c =
     let h = c .before .before .before .before .before .args .held in
     let ok : heldOk h ≡ true = sym (c .before .before .before .before .held-ok .ensures) ∙ c .before .before .before .if1 .taken in
     simp (ok, c .sum .ensures, claims-once h ok)

@@ -1,3 +1,5 @@
+-- `bench::owed::is_hit` meets its contract: field by field.
+-- Assumes nothing.
 use borrow.Author.Needs.{needs}
 use Rattle.bench.proofs.owed.is_hit.Statement.{statement}
 use Rattle.bench.proofs.owed.is_hit.Tie as tie

@@ -1,18 +1,21 @@
+-- `bench::owed::logged` meets its contract: the loop's invariant: the answer for the whole archive is the answer for the entries not
+-- passed yet.
+-- Assumes nothing.
 use Rattle.bench.proofs.Summed.{logged-here, logged-later, logged-end}
 use Rattle.bench.specs.Claims.{archived}
 use Rattle.rules.specs.Bench.{archivedBy}
 use Rattle.purse.specs.Details.{sameDetails}
 use Rattle.purse.specs.Lists.{among}
 use lib.ListN.{length, length-map, drop}
-use Prim.Native.Nat.{ℕ, _+_, _*_, _-_, _≤_, _<_}
-use mathlib.Core.Path.{_≡_, refl, _∙_, sym, ap}
+use Prim.Native.Nat.{_-_, _≤_}
+use mathlib.Core.Path.{_≡_, refl, _∙_, sym}
 use native.Mathlib.Omega.{arith}
 use borrow.Author.Needs.{needs}
 use Rattle.bench.proofs.owed.logged.Statement.{statement}
 use Rattle.bench.proofs.owed.logged.Tie as tie
 
 abbrev Inv-loop : tie.InvT-loop
-Inv-loop by d a count i₀ i = 
+Inv-loop by d a count i₀ i =
     (i ≤ count) × (among sameDetails d (archivedBy (by .0) (archived a)) ≡ among sameDetails d (archivedBy (by .0) (drop i (archived a))))
 
 abbrev μ-loop : tie.MeasureT-loop
@@ -34,7 +37,7 @@ is-hit-requires : tie.Need-is-hit-requires Inv-loop μ-loop
 is-hit-requires c κs = search needs
 
 returns : tie.Need-returns Inv-loop μ-loop
-returns c = 
+returns c =
     let at-loop = c .before .before .before .before in
     let start = at-loop .before in
     let a = start .args .t1 in
@@ -48,7 +51,7 @@ loop-less : tie.Need-loop-less Inv-loop μ-loop
 loop-less c = search needs
 
 loop-again : tie.Need-loop-again Inv-loop μ-loop
-loop-again c = 
+loop-again c =
     let at-loop = c .before .before .before .before in
     let start = at-loop .before in
     let a = start .args .t1 in
@@ -56,7 +59,7 @@ loop-again c =
     (omega arith, at-loop .loop .inv .1 ∙ logged-later a long (start .pre) (at-loop .loop .i) _ _ (omega arith) (sym (c .before .is-hit .ensures) ∙ c .if1 .left))
 
 returns-2 : tie.Need-returns-2 Inv-loop μ-loop
-returns-2 c = 
+returns-2 c =
     let at-loop = c .before in
     let start = at-loop .before in
     let a = start .args .t1 in

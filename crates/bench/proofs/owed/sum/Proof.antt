@@ -1,17 +1,20 @@
+-- `bench::owed::sum` meets its contract: the loop's invariant: the sum so far and what the entries not passed yet add is the whole, and
+-- the sum is at most 5,000,000 an entry.
+-- Assumes nothing.
 use Rattle.bench.proofs.Summed.{total-on, total-end, bounded-at, claim-most}
 use Rattle.bench.specs.Claims.{archived, claimOf}
 use Rattle.desk.specs.Desk.{zeroEntry}
 use Rattle.purse.specs.Lists.{total}
 use lib.ListN.{length, length-map, drop, getD}
-use Prim.Native.Nat.{ℕ, _+_, _*_, _-_, _≤_, _<_}
-use mathlib.Core.Path.{_≡_, refl, _∙_, sym, ap}
+use Prim.Native.Nat.{_+_, _*_, _-_, _≤_}
+use mathlib.Core.Path.{_≡_}
 use native.Mathlib.Omega.{arith}
 use borrow.Author.Needs.{needs}
 use Rattle.bench.proofs.owed.sum.Statement.{statement}
 use Rattle.bench.proofs.owed.sum.Tie as tie
 
 abbrev Inv-loop : tie.InvT-loop
-Inv-loop a count i₀ sum₀ i sum = 
+Inv-loop a count i₀ sum₀ i sum =
     (i ≤ count) × (total (claimOf (archived a)) (archived a) ≡ sum + total (claimOf (archived a)) (drop i (archived a))) × (sum ≤ 5000000 * i)
 
 abbrev μ-loop : tie.MeasureT-loop
@@ -33,7 +36,7 @@ claim-requires : tie.Need-claim-requires Inv-loop μ-loop
 claim-requires c κs = search needs
 
 add-sum : tie.Need-add-sum Inv-loop μ-loop
-add-sum c = 
+add-sum c =
     let at-loop = c .before .before .before in
     let start = at-loop .before in
     let a = start .args .t1 in
@@ -51,7 +54,7 @@ loop-less : tie.Need-loop-less Inv-loop μ-loop
 loop-less c = search needs
 
 loop-again : tie.Need-loop-again Inv-loop μ-loop
-loop-again c = 
+loop-again c =
     let at-loop = c .before .before .before in
     let start = at-loop .before in
     let a = start .args .t1 in
@@ -65,7 +68,7 @@ loop-again c =
     (omega arith, omega arith, omega arith)
 
 returns : tie.Need-returns Inv-loop μ-loop
-returns c = 
+returns c =
     let at-loop = c .before in
     let start = at-loop .before in
     let a = start .args .t1 in

@@ -1,11 +1,11 @@
+-- `bench::runs::each` meets its contract: the loop's invariant is `Going`: the run so far, and the pieces that are left.
+-- Assumes nothing.
 use Rattle.bench.proofs.Filling.{Going, going-start, going-on, going-end}
 use Rattle.bench.specs.Acts.{byRecord}
 use Rattle.rules.specs.Events.{decoded}
-use Rattle.desk.specs.declared.Answered.{Answered}
-use lib.ListN.{length, take, drop}
-use mathlib.Core.List.{List}
-use Prim.Native.Nat.{ℕ, _+_, _*_, _-_, _≤_, _<_}
-use mathlib.Core.Path.{_≡_, refl, _∙_, sym, ap}
+use lib.ListN.{take, drop}
+use Prim.Native.Nat.{ℕ, _+_, _*_, _-_}
+use mathlib.Core.Path.{_≡_, _∙_, ap}
 use native.Mathlib.Omega.{arith}
 use borrow.Author.Needs.{needs}
 use Rattle.bench.proofs.runs.each.Statement.{statement}
@@ -48,7 +48,7 @@ loop-less : tie.Need-loop-less Inv-loop μ-loop
 loop-less c = search needs
 
 loop-again : tie.Need-loop-again Inv-loop μ-loop
-loop-again c = 
+loop-again c =
     let at-loop = c .before .before .before .before in
     let start = at-loop .before .before .before in
     let i = at-loop .loop .i in
@@ -64,7 +64,7 @@ same-length : tie.Need-same-length Inv-loop μ-loop
 same-length c = search needs
 
 returns : tie.Need-returns Inv-loop μ-loop
-returns c = 
+returns c =
     let at-loop = c .before in
     going-end _ _ _ _ _ _ _ (omega arith) (at-loop .loop .inv)
 

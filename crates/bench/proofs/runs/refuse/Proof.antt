@@ -1,8 +1,10 @@
+-- `bench::runs::refuse` meets its contract: the loop's invariant is `Filled`: the places passed hold 2, the others what they held.
+-- Assumes nothing.
 use Rattle.bench.proofs.Filling.{twos-end}
-use Rattle.bench.proofs.Filling.{Filled, fill-none, fill-done, twos-on}
-use lib.ListN.{length, replicate}
-use Prim.Native.Nat.{ℕ, _+_, _*_, _-_, _≤_, _<_}
-use mathlib.Core.Path.{_≡_, refl, _∙_, sym, ap}
+use Rattle.bench.proofs.Filling.{Filled, fill-none, twos-on}
+use lib.ListN.{replicate}
+use Prim.Native.Nat.{_-_, _≤_}
+use mathlib.Core.Path.{_≡_}
 use native.Mathlib.Omega.{arith}
 use borrow.Author.Needs.{needs}
 use Rattle.bench.proofs.runs.refuse.Statement.{statement}
@@ -15,7 +17,7 @@ abbrev μ-loop : tie.MeasureT-loop
 μ-loop answers₀ n i₀ answers i = n - i
 
 loop-holds : tie.Need-loop-holds Inv-loop μ-loop
-loop-holds c = 
+loop-holds c =
     let e : c .args .n - 0 ≡ c .args .n = omega arith in
     (omega arith, rw e (fill-none _ _))
 
@@ -35,7 +37,7 @@ same-length : tie.Need-same-length Inv-loop μ-loop
 same-length c = search needs
 
 returns : tie.Need-returns Inv-loop μ-loop
-returns c = 
+returns c =
     let at-loop = c .before in
     twos-end (at-loop .before .args .answers .now) (at-loop .loop .answers) (at-loop .before .args .n) (at-loop .loop .i) (omega arith) (omega arith) (at-loop .loop .inv .1)
 

