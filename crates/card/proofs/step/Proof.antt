@@ -1,3 +1,4 @@
+-- `card::step` meets its contract: event by event, what each step promises. Assumes nothing.
 use borrow.Author.Needs.{needs}
 use Rattle.card.proofs.step.Statement.{statement}
 use Rattle.card.proofs.step.Tie as tie

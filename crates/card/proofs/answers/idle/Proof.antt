@@ -1,3 +1,4 @@
+-- `card::answers::idle` meets its contract: the fields are set one by one, and the details are zero. Assumes nothing.
 use borrow.Author.Needs.{needs}
 use Rattle.card.proofs.answers.idle.Statement.{statement}
 use Rattle.card.proofs.answers.idle.Tie as tie

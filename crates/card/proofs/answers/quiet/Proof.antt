@@ -1,3 +1,4 @@
+-- `card::answers::quiet` meets its contract: by what `sends` and `Message::zero` promise. Assumes nothing.
 use borrow.Author.Needs.{needs}
 use Rattle.card.proofs.answers.quiet.Statement.{statement}
 use Rattle.card.proofs.answers.quiet.Tie as tie

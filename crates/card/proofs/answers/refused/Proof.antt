@@ -1,3 +1,4 @@
+-- `card::answers::refused` meets its contract: by what the two zeros promise. Assumes nothing.
 use borrow.Author.Needs.{needs}
 use Rattle.card.proofs.answers.refused.Statement.{statement}
 use Rattle.card.proofs.answers.refused.Tie as tie

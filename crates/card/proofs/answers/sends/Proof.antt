@@ -1,3 +1,4 @@
+-- `card::answers::sends` meets its contract: by what `gives` and `Details::zero` promise. Assumes nothing.
 use borrow.Author.Needs.{needs}
 use Rattle.card.proofs.answers.sends.Statement.{statement}
 use Rattle.card.proofs.answers.sends.Tie as tie

@@ -1,3 +1,5 @@
+-- `card::delivery::deliver` meets its contract: at number 0 the arm of the message's kind is that of `delivered`, and the tests passed leave `pay` and `receive`
+-- what they require; else it is refused. Assumes nothing.
 use mathlib.Core.Path.{sym, _∙_}
 use Rattle.card.proofs.Cases.{done-at, refused-at, deliver-request, deliver-value, deliver-other}
 use Rattle.purse.specs.Step.{deliverNumber, deliverTo}
@@ -10,10 +12,16 @@ deliver-number-requires : tie.Need-deliver-number-requires
 deliver-number-requires c κs = search needs
 
 pay-requires : tie.Need-pay-requires
-pay-requires c κs = deliver-pay (c .before .before .before .args .p) (c .before .before .before .args .own) (c .before .before .before .args .m) (sym (c .before .before .deliver-number .ensures) ∙ c .before .if1 .taken) (c .match .keys1)
+pay-requires c κs =
+    deliver-pay (c .before .before .before .args .p) (c .before .before .before .args .own)
+    (c .before .before .before .args .m) (sym (c .before .before .deliver-number .ensures) ∙ c .before .if1 .taken)
+    (c .match .keys1)
 
 receive-requires : tie.Need-receive-requires
-receive-requires c κs = deliver-get (c .before .before .before .args .p) (c .before .before .before .args .own) (c .before .before .before .args .m) (sym (c .before .before .deliver-number .ensures) ∙ c .before .if1 .taken) (c .match .keys2)
+receive-requires c κs =
+    deliver-get (c .before .before .before .args .p) (c .before .before .before .args .own)
+    (c .before .before .before .args .m) (sym (c .before .before .deliver-number .ensures) ∙ c .before .if1 .taken)
+    (c .match .keys2)
 
 settle-requires : tie.Need-settle-requires
 settle-requires c κs = search needs
@@ -23,19 +31,33 @@ refused-requires c κs = search needs
 
 returns : tie.Need-returns
 unfolding deliverTo
-returns c = c .pay .ensures ∙ sym (deliver-request (c .before .before .before .before .args .p) (c .before .before .before .before .args .m .kind) (c .before .match .keys1)) ∙ sym (done-at (c .before .before .before .before .args .p) (deliverNumber (c .before .before .before .before .args .p) (c .before .before .before .before .args .own) (c .before .before .before .before .args .m)) _ (c .before .before .before .deliver-number .ensures) (c .before .before .if1 .taken))
+returns c =
+    c .pay .ensures ∙ sym
+    (deliver-request (c .before .before .before .before .args .p) (c .before .before .before .before .args .m .kind) (c .before .match .keys1))
+    ∙ sym
+    (done-at (c .before .before .before .before .args .p) (deliverNumber (c .before .before .before .before .args .p) (c .before .before .before .before .args .own) (c .before .before .before .before .args .m)) _ (c .before .before .before .deliver-number .ensures) (c .before .before .if1 .taken))
 
 returns-2 : tie.Need-returns-2
 unfolding deliverTo
-returns-2 c = c .receive .ensures ∙ sym (deliver-value (c .before .before .before .before .args .p) (c .before .before .before .before .args .m .kind) (c .before .match .keys2)) ∙ sym (done-at (c .before .before .before .before .args .p) (deliverNumber (c .before .before .before .before .args .p) (c .before .before .before .before .args .own) (c .before .before .before .before .args .m)) _ (c .before .before .before .deliver-number .ensures) (c .before .before .if1 .taken))
+returns-2 c =
+    c .receive .ensures ∙ sym
+    (deliver-value (c .before .before .before .before .args .p) (c .before .before .before .before .args .m .kind) (c .before .match .keys2))
+    ∙ sym
+    (done-at (c .before .before .before .before .args .p) (deliverNumber (c .before .before .before .before .args .p) (c .before .before .before .before .args .own) (c .before .before .before .before .args .m)) _ (c .before .before .before .deliver-number .ensures) (c .before .before .if1 .taken))
 
 returns-3 : tie.Need-returns-3
 unfolding deliverTo
-returns-3 c = c .settle .ensures ∙ sym (deliver-other (c .before .before .before .before .args .p) (c .before .before .before .before .args .m .kind) (c .before .match .rest .0 .1) (c .before .match .rest .1)) ∙ sym (done-at (c .before .before .before .before .args .p) (deliverNumber (c .before .before .before .before .args .p) (c .before .before .before .before .args .own) (c .before .before .before .before .args .m)) _ (c .before .before .before .deliver-number .ensures) (c .before .before .if1 .taken))
+returns-3 c =
+    c .settle .ensures ∙ sym
+    (deliver-other (c .before .before .before .before .args .p) (c .before .before .before .before .args .m .kind) (c .before .match .rest .0 .1) (c .before .match .rest .1))
+    ∙ sym
+    (done-at (c .before .before .before .before .args .p) (deliverNumber (c .before .before .before .before .args .p) (c .before .before .before .before .args .own) (c .before .before .before .before .args .m)) _ (c .before .before .before .deliver-number .ensures) (c .before .before .if1 .taken))
 
 returns-4 : tie.Need-returns-4
 unfolding deliverTo
-returns-4 c = c .refused .ensures ∙ sym (refused-at (c .before .before .before .args .p) (deliverNumber (c .before .before .before .args .p) (c .before .before .before .args .own) (c .before .before .before .args .m)) _ (c .before .before .deliver-number .ensures) (c .before .if1 .left))
+returns-4 c =
+    c .refused .ensures ∙ sym
+    (refused-at (c .before .before .before .args .p) (deliverNumber (c .before .before .before .args .p) (c .before .before .before .args .own) (c .before .before .before .args .m)) _ (c .before .before .deliver-number .ensures) (c .before .if1 .left))
 
 pub deliver-spec : {M : Type 1} → statement M
 deliver-spec =

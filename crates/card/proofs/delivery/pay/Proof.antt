@@ -1,3 +1,4 @@
+-- `card::delivery::pay` meets its contract: by what `sends` promises; the balance holds the amount, as is required. Assumes nothing.
 use borrow.Author.Needs.{needs}
 use Rattle.card.proofs.delivery.pay.Statement.{statement}
 use Rattle.card.proofs.delivery.pay.Tie as tie

@@ -1,3 +1,4 @@
+-- `card::delivery::receive` meets its contract: by what `idle` and `sends` promise; the sum is below the ceiling, as is required. Assumes nothing.
 use borrow.Author.Needs.{needs}
 use Rattle.card.proofs.delivery.receive.Statement.{statement}
 use Rattle.card.proofs.delivery.receive.Tie as tie

@@ -1,3 +1,4 @@
+-- `card::delivery::settle` meets its contract: by what `idle` and `quiet` promise. Assumes nothing.
 use borrow.Author.Needs.{needs}
 use Rattle.card.proofs.delivery.settle.Statement.{statement}
 use Rattle.card.proofs.delivery.settle.Tie as tie

@@ -1,3 +1,4 @@
+-- `card::numbers::abort_number` meets its contract: two tests, taken one by one (`own-walk`). Assumes nothing.
 use Rattle.card.proofs.Ladders.{own-walk}
 use borrow.Author.Needs.{needs}
 use Rattle.card.proofs.numbers.abort_number.Statement.{statement}
@@ -13,7 +14,9 @@ tested-requires-2 : tie.Need-tested-requires-2
 tested-requires-2 c κs = search needs
 
 returns : tie.Need-returns
-returns c = own-walk (c .before .before .before .before .args .p) (c .before .before .before .before .args .own) (c .before .before .before .well-formed .ensures) (c .before .before .tested .ensures) (c .tested2 .ensures)
+returns c =
+    own-walk (c .before .before .before .before .args .p) (c .before .before .before .before .args .own)
+    (c .before .before .before .well-formed .ensures) (c .before .before .tested .ensures) (c .tested2 .ensures)
 
 pub abort-number-spec : {M : Type 1} → statement M
 abort-number-spec =

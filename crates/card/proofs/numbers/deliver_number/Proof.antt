@@ -1,3 +1,4 @@
+-- `card::numbers::deliver_number` meets its contract: one test more than `abort_number` (`more`). Assumes nothing.
 use mathlib.Core.Path.{refl}
 use Rattle.purse.proofs.Tests.{more}
 use Rattle.purse.specs.Step.{ownTests, expected, abortNumber, deliverNumber}
@@ -17,7 +18,10 @@ tested-requires c κs = search needs
 
 returns : tie.Need-returns
 unfolding abortNumber deliverNumber
-returns c = more (ownTests (c .before .before .before .args .p) (c .before .before .before .args .own)) (not (expected (c .before .before .before .args .p) (c .before .before .before .args .m))) 13 refl (c .before .before .abort-number .ensures) (rw (c .before .expects .ensures) at (c .tested .ensures))
+returns c =
+    more (ownTests (c .before .before .before .args .p) (c .before .before .before .args .own))
+    (not (expected (c .before .before .before .args .p) (c .before .before .before .args .m))) 13 refl
+    (c .before .before .abort-number .ensures) (rw (c .before .expects .ensures) at (c .tested .ensures))
 
 pub deliver-number-spec : {M : Type 1} → statement M
 deliver-number-spec =

@@ -1,3 +1,4 @@
+-- `card::numbers::expects` meets its contract: kind by kind (`Cases`). Assumes nothing.
 use mathlib.Core.Path.{_≡_}
 use native.Mathlib.Omega.{arith}
 use Rattle.card.proofs.Cases.{of-request, of-value, of-acknowledge, of-none}
@@ -23,7 +24,9 @@ returns-4 c =
     simp (of-none (c .before .before .args .p) (c .before .before .args .m) (λ (h : c .before .before .args .m .kind ≡ 1). omega arith) (λ (h : c .before .before .args .m .kind ≡ 2). omega arith) (λ (h : c .before .before .args .m .kind ≡ 3). omega arith))
 
 returns-5 : tie.Need-returns-5
-returns-5 c = simp (of-none (c .before .before .args .p) (c .before .before .args .m) (c .match .rest .0 .0 .0 .1) (c .match .rest .0 .0 .1) (c .match .rest .0 .1))
+returns-5 c =
+    simp
+    (of-none (c .before .before .args .p) (c .before .before .args .m) (c .match .rest .0 .0 .0 .1) (c .match .rest .0 .0 .1) (c .match .rest .0 .1))
 
 pub expects-spec : {M : Type 1} → statement M
 expects-spec = tie.close (tie.spec same-requires returns returns-2 returns-3 returns-4 returns-5)

@@ -1,3 +1,4 @@
+-- `card::numbers::from_number` meets its contract: one test more than `start_number` (`more`). Assumes nothing.
 use mathlib.Core.Path.{refl}
 use Rattle.purse.proofs.Tests.{more}
 use Rattle.purse.specs.Step.{startTests, startNumber, fromNumber}
@@ -14,7 +15,11 @@ tested-requires c κs = search needs
 
 returns : tie.Need-returns
 unfolding startNumber fromNumber
-returns c = more (startTests (c .before .before .before .before .args .p) (c .before .before .before .before .args .own) (c .before .before .before .before .args .other) (c .before .before .before .before .args .amount)) (ltb (c .before .before .before .before .args .p .balance .0) (c .before .before .before .before .args .amount .0)) 11 refl (c .before .before .before .start-number .ensures) (c .tested .ensures)
+returns c =
+    more
+    (startTests (c .before .before .before .before .args .p) (c .before .before .before .before .args .own) (c .before .before .before .before .args .other) (c .before .before .before .before .args .amount))
+    (ltb (c .before .before .before .before .args .p .balance .0) (c .before .before .before .before .args .amount .0)) 11
+    refl (c .before .before .before .start-number .ensures) (c .tested .ensures)
 
 pub from-number-spec : {M : Type 1} → statement M
 from-number-spec = tie.close (tie.spec start-number-requires tested-requires returns)

@@ -1,3 +1,4 @@
+-- `card::numbers::start_number` meets its contract: seven tests, taken one by one (`start-walk`). Assumes nothing.
 use Rattle.card.proofs.Ladders.{start-walk}
 use borrow.Author.Needs.{needs}
 use Rattle.card.proofs.numbers.start_number.Statement.{statement}
@@ -31,7 +32,19 @@ tested-requires-7 : tie.Need-tested-requires-7
 tested-requires-7 c κs = search needs
 
 returns : tie.Need-returns
-returns c = start-walk (c .before .before .before .before .before .before .before .before .before .before .before .before .before .before .before .before .args .p) (c .before .before .before .before .before .before .before .before .before .before .before .before .before .before .before .before .args .own) (c .before .before .before .before .before .before .before .before .before .before .before .before .before .before .before .before .args .other) (c .before .before .before .before .before .before .before .before .before .before .before .before .before .before .before .before .args .amount) (c .before .before .before .before .before .before .before .before .before .before .before .before .before .before .before .well-formed .ensures) (c .before .before .before .before .before .before .before .is-legal .ensures) (c .before .before .before .before .before .before .before .before .before .before .before .before .before .before .tested .ensures) (c .before .before .before .before .before .before .before .before .before .before .before .before .tested2 .ensures) (c .before .before .before .before .before .before .before .before .tested3 .ensures) (c .before .before .before .before .before .before .tested4 .ensures) (c .before .before .before .before .tested5 .ensures) (c .before .before .tested6 .ensures) (c .tested7 .ensures)
+returns c =
+    start-walk
+    (c .before .before .before .before .before .before .before .before .before .before .before .before .before .before .before .before .args .p)
+    (c .before .before .before .before .before .before .before .before .before .before .before .before .before .before .before .before .args .own)
+    (c .before .before .before .before .before .before .before .before .before .before .before .before .before .before .before .before .args .other)
+    (c .before .before .before .before .before .before .before .before .before .before .before .before .before .before .before .before .args .amount)
+    (c .before .before .before .before .before .before .before .before .before .before .before .before .before .before .before .well-formed .ensures)
+    (c .before .before .before .before .before .before .before .is-legal .ensures)
+    (c .before .before .before .before .before .before .before .before .before .before .before .before .before .before .tested .ensures)
+    (c .before .before .before .before .before .before .before .before .before .before .before .before .tested2 .ensures)
+    (c .before .before .before .before .before .before .before .before .tested3 .ensures)
+    (c .before .before .before .before .before .before .tested4 .ensures)
+    (c .before .before .before .before .tested5 .ensures) (c .before .before .tested6 .ensures) (c .tested7 .ensures)
 
 pub start-number-spec : {M : Type 1} → statement M
 start-number-spec =

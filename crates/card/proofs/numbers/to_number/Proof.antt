@@ -1,3 +1,4 @@
+-- `card::numbers::to_number` meets its contract: one test more than `start_number` (`more`); the sum is taken in wider numbers, so it does not wrap. Assumes nothing.
 use mathlib.Core.Path.{refl}
 use Rattle.purse.proofs.Tests.{more}
 use Rattle.purse.specs.Step.{startTests, startNumber, toNumber}
@@ -31,7 +32,12 @@ tested-requires c κs = search needs
 
 returns : tie.Need-returns
 unfolding startNumber toNumber
-returns c = more (startTests (c .before .before .before .before .before .args .p) (c .before .before .before .before .before .args .own) (c .before .before .before .before .before .args .other) (c .before .before .before .before .before .args .amount)) (ltb (ceiling (c .before .before .before .before .before .args .p)) (c .before .before .before .before .before .args .p .balance .0 + c .before .before .before .before .before .args .amount .0)) 12 refl (c .before .before .before .before .start-number .ensures) (rw (c .before .before .before .ceiling .ensures) at (c .tested .ensures))
+returns c =
+    more
+    (startTests (c .before .before .before .before .before .args .p) (c .before .before .before .before .before .args .own) (c .before .before .before .before .before .args .other) (c .before .before .before .before .before .args .amount))
+    (ltb (ceiling (c .before .before .before .before .before .args .p)) (c .before .before .before .before .before .args .p .balance .0 + c .before .before .before .before .before .args .amount .0))
+    12 refl (c .before .before .before .before .start-number .ensures)
+    (rw (c .before .before .before .ceiling .ensures) at (c .tested .ensures))
 
 pub to-number-spec : {M : Type 1} → statement M
 to-number-spec =

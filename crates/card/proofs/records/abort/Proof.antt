@@ -1,3 +1,4 @@
+-- `card::records::abort` meets its contract: at number 0 the record is well formed, so that a busy purse has a log place left; else it is refused. Assumes nothing.
 use mathlib.Core.Path.{sym, ap, _∙_}
 use Rattle.purse.specs.declared.Purse.{Purse}
 use Rattle.purse.specs.Details.{zeroDetails, zeroMessage}
@@ -13,7 +14,9 @@ abort-number-requires : tie.Need-abort-number-requires
 abort-number-requires c κs = search needs
 
 quit-requires : tie.Need-quit-requires
-quit-requires c κs = room (c .before .before .args .own) (c .before .before .args .p) (abort-passed (c .before .before .args .p) (c .before .before .args .own) (sym (c .before .abort-number .ensures) ∙ c .if1 .taken))
+quit-requires c κs =
+    room (c .before .before .args .own) (c .before .before .args .p)
+    (abort-passed (c .before .before .args .p) (c .before .before .args .own) (sym (c .before .abort-number .ensures) ∙ c .if1 .taken))
 
 quiet-requires : tie.Need-quiet-requires
 quiet-requires c κs = search needs
@@ -23,11 +26,15 @@ refused-requires c κs = search needs
 
 returns : tie.Need-returns
 unfolding abortBy
-returns c = c .quiet .ensures ∙ ap (λ (q : Purse). done q zeroMessage zeroDetails) (c .before .quit .ensures) ∙ sym (done-at (c .before .before .before .before .args .p) (abortNumber (c .before .before .before .before .args .p) (c .before .before .before .before .args .own)) _ (c .before .before .before .abort-number .ensures) (c .before .before .if1 .taken))
+returns c =
+    c .quiet .ensures ∙ ap (λ (q : Purse). done q zeroMessage zeroDetails) (c .before .quit .ensures) ∙ sym
+    (done-at (c .before .before .before .before .args .p) (abortNumber (c .before .before .before .before .args .p) (c .before .before .before .before .args .own)) _ (c .before .before .before .abort-number .ensures) (c .before .before .if1 .taken))
 
 returns-2 : tie.Need-returns-2
 unfolding abortBy
-returns-2 c = c .refused .ensures ∙ sym (refused-at (c .before .before .before .args .p) (abortNumber (c .before .before .before .args .p) (c .before .before .before .args .own)) _ (c .before .before .abort-number .ensures) (c .before .if1 .left))
+returns-2 c =
+    c .refused .ensures ∙ sym
+    (refused-at (c .before .before .before .args .p) (abortNumber (c .before .before .before .args .p) (c .before .before .before .args .own)) _ (c .before .before .abort-number .ensures) (c .before .if1 .left))
 
 pub abort-spec : {M : Type 1} → statement M
 abort-spec =

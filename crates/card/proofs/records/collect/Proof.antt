@@ -1,3 +1,4 @@
+-- `card::records::collect` meets its contract: at number 0 the log holds an entry; else it is refused. Assumes nothing.
 use mathlib.Core.Path.{sym, _∙_}
 use Rattle.purse.specs.Step.{collectNumber, collectBy}
 use Rattle.purse.proofs.Steps.{collect-some}
@@ -10,7 +11,9 @@ collect-number-requires : tie.Need-collect-number-requires
 collect-number-requires c κs = search needs
 
 take-oldest-requires : tie.Need-take-oldest-requires
-take-oldest-requires c κs = collect-some (c .before .before .args .p) (c .before .before .args .own) (sym (c .before .collect-number .ensures) ∙ c .if1 .taken)
+take-oldest-requires c κs =
+    collect-some (c .before .before .args .p) (c .before .before .args .own)
+    (sym (c .before .collect-number .ensures) ∙ c .if1 .taken)
 
 zero-requires : tie.Need-zero-requires
 zero-requires c κs = search needs
@@ -26,11 +29,16 @@ refused-requires c κs = search needs
 
 returns : tie.Need-returns
 unfolding collectBy
-returns c = c .gives .ensures ∙ handed (c .before .before .before .take-oldest .ensures) (c .before .before .zero .ensures) (c .before .oldest .ensures) ∙ sym (done-at (c .before .before .before .before .before .before .args .p) (collectNumber (c .before .before .before .before .before .before .args .p) (c .before .before .before .before .before .before .args .own)) _ (c .before .before .before .before .before .collect-number .ensures) (c .before .before .before .before .if1 .taken))
+returns c =
+    c .gives .ensures ∙ handed (c .before .before .before .take-oldest .ensures) (c .before .before .zero .ensures)
+    (c .before .oldest .ensures) ∙ sym
+    (done-at (c .before .before .before .before .before .before .args .p) (collectNumber (c .before .before .before .before .before .before .args .p) (c .before .before .before .before .before .before .args .own)) _ (c .before .before .before .before .before .collect-number .ensures) (c .before .before .before .before .if1 .taken))
 
 returns-2 : tie.Need-returns-2
 unfolding collectBy
-returns-2 c = c .refused .ensures ∙ sym (refused-at (c .before .before .before .args .p) (collectNumber (c .before .before .before .args .p) (c .before .before .before .args .own)) _ (c .before .before .collect-number .ensures) (c .before .if1 .left))
+returns-2 c =
+    c .refused .ensures ∙ sym
+    (refused-at (c .before .before .before .args .p) (collectNumber (c .before .before .before .args .p) (c .before .before .before .args .own)) _ (c .before .before .collect-number .ensures) (c .before .if1 .left))
 
 pub collect-spec : {M : Type 1} → statement M
 collect-spec =

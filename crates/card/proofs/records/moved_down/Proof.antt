@@ -1,3 +1,4 @@
+-- `card::records::moved_down` meets its contract: the log has eight places, and dropping one and appending zero gives these eight (`moved`). Assumes nothing.
 use mathlib.Core.Path.{_≡_}
 use lib.ListN.{length}
 use Rattle.purse.specs.Details.{zeroDetails}
@@ -36,7 +37,9 @@ long : (c : tie.Start) → length (c .args .t1) ≡ 8
 long c = search (needs, unmapped)
 
 returns : tie.Need-returns
-returns c = cc (moved (c .before .before .before .before .before .before .before .before .args .t1) zeroDetails (long (c .before .before .before .before .before .before .before .before)))
+returns c =
+    cc
+    (moved (c .before .before .before .before .before .before .before .before .args .t1) zeroDetails (long (c .before .before .before .before .before .before .before .before)))
 
 pub moved-down-spec : {M : Type 1} → statement M
 moved-down-spec =

@@ -1,3 +1,4 @@
+-- `card::records::quit` meets its contract: status by status (`Cases`). Assumes nothing.
 use mathlib.Core.Path.{sym, _∙_}
 use Rattle.card.proofs.Cases.{quit-idle, quit-epr, quit-busy}
 use borrow.Author.Needs.{needs}

@@ -1,3 +1,4 @@
+-- `card::records::take_oldest` meets its contract: by what `moved_down` promises. Assumes nothing.
 use borrow.Author.Needs.{needs}
 use Rattle.card.proofs.records.take_oldest.Statement.{statement}
 use Rattle.card.proofs.records.take_oldest.Tie as tie

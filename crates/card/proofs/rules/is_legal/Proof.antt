@@ -1,3 +1,4 @@
+-- `card::rules::is_legal` meets its contract: by computing the definition. Assumes nothing.
 use Rattle.purse.specs.Details.{legal}
 use Rattle.card.proofs.rules.is_legal.Statement.{statement}
 use Rattle.card.proofs.rules.is_legal.Tie as tie

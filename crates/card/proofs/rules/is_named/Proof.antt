@@ -1,3 +1,4 @@
+-- `card::rules::is_named` meets its contract: by what `is_legal` promises. Assumes nothing.
 use Rattle.purse.specs.Details.{named}
 use borrow.Author.Needs.{needs}
 use Rattle.card.proofs.rules.is_named.Statement.{statement}

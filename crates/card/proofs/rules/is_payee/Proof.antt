@@ -1,3 +1,4 @@
+-- `card::rules::is_payee` meets its contract: by computing the definition. Assumes nothing.
 use Rattle.purse.specs.Details.{asPayee}
 use Rattle.card.proofs.rules.is_payee.Statement.{statement}
 use Rattle.card.proofs.rules.is_payee.Tie as tie

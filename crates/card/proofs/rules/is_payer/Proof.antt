@@ -1,3 +1,4 @@
+-- `card::rules::is_payer` meets its contract: by computing the definition. Assumes nothing.
 use Rattle.purse.specs.Details.{asPayer}
 use Rattle.card.proofs.rules.is_payer.Statement.{statement}
 use Rattle.card.proofs.rules.is_payer.Tie as tie

@@ -1,3 +1,4 @@
+-- `card::rules::is_place_ok` meets its contract: by what its tests promise. Assumes nothing.
 use Rattle.purse.specs.Purse.{placeOk}
 use borrow.Author.Needs.{needs}
 use Rattle.card.proofs.rules.is_place_ok.Statement.{statement}

@@ -1,3 +1,4 @@
+-- `card::rules::is_status_ok` meets its contract: status by status (`Cases`). Assumes nothing.
 use Rattle.card.proofs.Cases.{at-idle, at-epr, at-epv, at-epa, at-none}
 use borrow.Author.Needs.{needs}
 use Rattle.card.proofs.rules.is_status_ok.Statement.{statement}
@@ -37,19 +38,33 @@ is-payer-requires-2 : tie.Need-is-payer-requires-2
 is-payer-requires-2 c κs = search needs
 
 returns : tie.Need-returns
-returns c = simp (at-idle (c .before .before .before .before .before .before .before .before .args .own) (c .before .before .before .before .before .before .before .before .args .p) (c .before .before .match .keys1)) cc
+returns c =
+    simp
+    (at-idle (c .before .before .before .before .before .before .before .before .args .own) (c .before .before .before .before .before .before .before .before .args .p) (c .before .before .match .keys1))
+    cc
 
 returns-2 : tie.Need-returns-2
-returns-2 c = simp (at-epr (c .before .before .before .before .before .before .before .before .before .args .own) (c .before .before .before .before .before .before .before .before .before .args .p) (c .before .before .before .match .keys2)) cc
+returns-2 c =
+    simp
+    (at-epr (c .before .before .before .before .before .before .before .before .before .args .own) (c .before .before .before .before .before .before .before .before .before .args .p) (c .before .before .before .match .keys2))
+    cc
 
 returns-3 : tie.Need-returns-3
-returns-3 c = simp (at-epv (c .before .before .before .before .before .before .before .before .before .args .own) (c .before .before .before .before .before .before .before .before .before .args .p) (c .before .before .before .match .keys3)) cc
+returns-3 c =
+    simp
+    (at-epv (c .before .before .before .before .before .before .before .before .before .args .own) (c .before .before .before .before .before .before .before .before .before .args .p) (c .before .before .before .match .keys3))
+    cc
 
 returns-4 : tie.Need-returns-4
-returns-4 c = simp (at-epa (c .before .before .before .before .before .before .before .args .own) (c .before .before .before .before .before .before .before .args .p) (c .before .match .keys4)) cc
+returns-4 c =
+    simp
+    (at-epa (c .before .before .before .before .before .before .before .args .own) (c .before .before .before .before .before .before .before .args .p) (c .before .match .keys4))
+    cc
 
 returns-5 : tie.Need-returns-5
-returns-5 c = simp (at-none (c .before .before .before .before .before .before .args .own) (c .before .before .before .before .before .before .args .p) (c .match .rest .0 .0 .0 .1) (c .match .rest .0 .0 .1) (c .match .rest .0 .1) (c .match .rest .1))
+returns-5 c =
+    simp
+    (at-none (c .before .before .before .before .before .before .args .own) (c .before .before .before .before .before .before .args .p) (c .match .rest .0 .0 .0 .1) (c .match .rest .0 .0 .1) (c .match .rest .0 .1) (c .match .rest .1))
 
 pub is-status-ok-spec : {M : Type 1} → statement M
 is-status-ok-spec =

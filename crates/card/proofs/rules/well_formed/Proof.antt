@@ -1,3 +1,4 @@
+-- `card::rules::well_formed` meets its contract: by what its tests promise. Assumes nothing.
 use Rattle.purse.specs.Purse.{wellFormed}
 use borrow.Author.Needs.{needs}
 use Rattle.card.proofs.rules.well_formed.Statement.{statement}

@@ -1,3 +1,4 @@
+-- `card::starts::asks` meets its contract: by what `begun` and `sends` promise. Assumes nothing.
 use borrow.Author.Needs.{needs}
 use Rattle.card.proofs.starts.asks.Statement.{statement}
 use Rattle.card.proofs.starts.asks.Tie as tie

@@ -1,3 +1,4 @@
+-- `card::starts::start_from` meets its contract: at number 0 the next number is not the last; else it is refused. Assumes nothing.
 use mathlib.Core.Path.{sym, ap, _∙_}
 use Rattle.purse.specs.declared.Purse.{Purse}
 use Rattle.purse.specs.declared.Details.{Details}
@@ -17,7 +18,10 @@ from-details-requires : tie.Need-from-details-requires
 from-details-requires c κs = search needs
 
 begun-requires : tie.Need-begun-requires
-begun-requires c κs = ready-from (c .before .before .before .args .p) (c .before .before .before .args .own) (c .before .before .before .args .other) (c .before .before .before .args .amount) (sym (c .before .before .from-number .ensures) ∙ c .before .if1 .taken) .number
+begun-requires c κs =
+    ready-from (c .before .before .before .args .p) (c .before .before .before .args .own)
+    (c .before .before .before .args .other) (c .before .before .before .args .amount)
+    (sym (c .before .before .from-number .ensures) ∙ c .before .if1 .taken) .number
 
 quiet-requires : tie.Need-quiet-requires
 quiet-requires c κs = search needs
@@ -27,11 +31,17 @@ refused-requires c κs = search needs
 
 returns : tie.Need-returns
 unfolding startFrom
-returns c = c .quiet .ensures ∙ ap (λ (q : Purse). done q zeroMessage zeroDetails) (c .before .begun .ensures ∙ ap (λ (d : Details). begunWith epr d (c .before .before .before .before .before .args .p)) (c .before .before .from-details .ensures)) ∙ sym (done-at (c .before .before .before .before .before .args .p) (fromNumber (c .before .before .before .before .before .args .p) (c .before .before .before .before .before .args .own) (c .before .before .before .before .before .args .other) (c .before .before .before .before .before .args .amount)) _ (c .before .before .before .before .from-number .ensures) (c .before .before .before .if1 .taken))
+returns c =
+    c .quiet .ensures ∙ ap (λ (q : Purse). done q zeroMessage zeroDetails)
+    (c .before .begun .ensures ∙ ap (λ (d : Details). begunWith epr d (c .before .before .before .before .before .args .p)) (c .before .before .from-details .ensures))
+    ∙ sym
+    (done-at (c .before .before .before .before .before .args .p) (fromNumber (c .before .before .before .before .before .args .p) (c .before .before .before .before .before .args .own) (c .before .before .before .before .before .args .other) (c .before .before .before .before .before .args .amount)) _ (c .before .before .before .before .from-number .ensures) (c .before .before .before .if1 .taken))
 
 returns-2 : tie.Need-returns-2
 unfolding startFrom
-returns-2 c = c .refused .ensures ∙ sym (refused-at (c .before .before .before .args .p) (fromNumber (c .before .before .before .args .p) (c .before .before .before .args .own) (c .before .before .before .args .other) (c .before .before .before .args .amount)) _ (c .before .before .from-number .ensures) (c .before .if1 .left))
+returns-2 c =
+    c .refused .ensures ∙ sym
+    (refused-at (c .before .before .before .args .p) (fromNumber (c .before .before .before .args .p) (c .before .before .before .args .own) (c .before .before .before .args .other) (c .before .before .before .args .amount)) _ (c .before .before .from-number .ensures) (c .before .if1 .left))
 
 pub start-from-spec : {M : Type 1} → statement M
 start-from-spec =

@@ -1,3 +1,4 @@
+-- `card::starts::start_to` meets its contract: at number 0 the next number is not the last; else it is refused. Assumes nothing.
 use mathlib.Core.Path.{sym, ap, _∙_}
 use Rattle.purse.specs.declared.Details.{Details}
 use Rattle.purse.specs.Details.{zeroDetails}
@@ -17,18 +18,27 @@ to-details-requires : tie.Need-to-details-requires
 to-details-requires c κs = search needs
 
 asks-requires : tie.Need-asks-requires
-asks-requires c κs = ready-to (c .before .before .before .args .p) (c .before .before .before .args .own) (c .before .before .before .args .other) (c .before .before .before .args .amount) (sym (c .before .before .to-number .ensures) ∙ c .before .if1 .taken) .number
+asks-requires c κs =
+    ready-to (c .before .before .before .args .p) (c .before .before .before .args .own)
+    (c .before .before .before .args .other) (c .before .before .before .args .amount)
+    (sym (c .before .before .to-number .ensures) ∙ c .before .if1 .taken) .number
 
 refused-requires : tie.Need-refused-requires
 refused-requires c κs = search needs
 
 returns : tie.Need-returns
 unfolding startTo
-returns c = c .asks .ensures ∙ ap (λ (d : Details). done (begunWith epv d (c .before .before .before .before .args .p)) (record { kind = request; details = d }) zeroDetails) (c .before .to-details .ensures) ∙ sym (done-at (c .before .before .before .before .args .p) (toNumber (c .before .before .before .before .args .p) (c .before .before .before .before .args .own) (c .before .before .before .before .args .other) (c .before .before .before .before .args .amount)) _ (c .before .before .before .to-number .ensures) (c .before .before .if1 .taken))
+returns c =
+    c .asks .ensures ∙ ap
+    (λ (d : Details). done (begunWith epv d (c .before .before .before .before .args .p)) (record { kind = request; details = d }) zeroDetails)
+    (c .before .to-details .ensures) ∙ sym
+    (done-at (c .before .before .before .before .args .p) (toNumber (c .before .before .before .before .args .p) (c .before .before .before .before .args .own) (c .before .before .before .before .args .other) (c .before .before .before .before .args .amount)) _ (c .before .before .before .to-number .ensures) (c .before .before .if1 .taken))
 
 returns-2 : tie.Need-returns-2
 unfolding startTo
-returns-2 c = c .refused .ensures ∙ sym (refused-at (c .before .before .before .args .p) (toNumber (c .before .before .before .args .p) (c .before .before .before .args .own) (c .before .before .before .args .other) (c .before .before .before .args .amount)) _ (c .before .before .to-number .ensures) (c .before .if1 .left))
+returns-2 c =
+    c .refused .ensures ∙ sym
+    (refused-at (c .before .before .before .args .p) (toNumber (c .before .before .before .args .p) (c .before .before .before .args .own) (c .before .before .before .args .other) (c .before .before .before .args .amount)) _ (c .before .before .to-number .ensures) (c .before .if1 .left))
 
 pub start-to-spec : {M : Type 1} → statement M
 start-to-spec =
