@@ -30,10 +30,6 @@ pub bit-yes : (b : Bool) → 1 ≤ bit b → b ≡ true
 bit-yes true h = refl
 bit-yes false h = absurd (omega arith)
 
-pub bit-no : (b : Bool) → bit b ≡ 0 → b ≡ false
-bit-no true h = absurd (omega arith)
-bit-no false h = refl
-
 pub cond-zero : (b : Bool) (n : ℕ) → cond b (0 + n) 0 ≡ cond b n 0
 cond-zero true n = omega arith
 cond-zero false n = refl
@@ -164,6 +160,18 @@ module _ {A : Type 0} (same : A → A → Bool) (eq : (x y : A) → same x y ≡
   total-eq w s t h =
       omega (arith, total-le w s t (λ (x : A). omega (arith, h x)), total-le w t s (λ (x : A). omega (arith, h x)))
 
+-- each member, by its place
+pub all-at : {A : Type 0} (f : A → Bool) (z : A) (l : List A) (i : ℕ) → all f l ≡ true → i < length l → f (getD l i z) ≡ true
+all-at f z [] i h g = absurd (omega arith)
+all-at f z (x ∷ l) zero h g = and-l (f x) (all f l) h
+all-at f z (x ∷ l) (suc i) h g = all-at f z l i (and-r (f x) (all f l) h) (omega arith)
+
+-- each of the first n
+pub all-take : {A : Type 0} (f : A → Bool) (z : A) (n : ℕ) (l : List A) → n ≤ length l → ((i : ℕ) → i < n → f (getD l i z) ≡ true) → all f (take n l) ≡ true
+all-take f z zero l h g = refl
+all-take f z (suc n) [] h g = absurd (omega arith)
+all-take f z (suc n) (x ∷ l) h g = and-i (g zero (omega arith)) (all-take f z n l (omega arith) (λ (i : ℕ) (k : i < n). g (suc i) (omega arith)))
+
 -- sums
 pub total-append : {A : Type 0} (w : A → ℕ) (s t : List A) → total w (s ++ t) ≡ total w s + total w t
 total-append w [] t = omega arith
@@ -176,10 +184,6 @@ keep-append {A} f (x ∷ s) t =
     (λ (e : f x ≡ true). rw e (ap (λ (l : List A). x ∷ l) (keep-append f s t)))
     (λ (e : f x ≡ false). rw e (keep-append f s t))
     (which (f x))
-
-pub sum-le : (n : ℕ) (f g : ℕ → ℕ) → ((p : ℕ) → p < n → f p ≤ g p) → sumTo n f ≤ sumTo n g
-sum-le zero f g h = omega arith
-sum-le (suc n) f g h = omega (arith, sum-le n f g (λ (p : ℕ) (l : p < n). h p (omega arith)), h n (omega arith))
 
 pub sum-same : (n : ℕ) (f g : ℕ → ℕ) → ((p : ℕ) → p < n → f p ≡ g p) → sumTo n f ≡ sumTo n g
 sum-same zero f g h = refl
@@ -230,14 +234,6 @@ module _ {A : Type 0} (w f : A → ℕ) where
   sum-none : (n : ℕ) → sumTo n (shares []) ≡ 0
   sum-none zero = refl
   sum-none (suc n) = omega (arith, sum-none n)
-
-  pub sum-shares-le : (n : ℕ) (l : List A) → sumTo n (λ (p : ℕ). total w (keep (λ (d : A). eqb (f d) p) l)) ≤ total w l
-  sum-shares-le n [] = omega (arith, sum-none n)
-  sum-shares-le n (d ∷ l) =
-      ⊎-elim
-      (λ (e : ltb (f d) n ≡ true). let m : cond (ltb (f d) n) (w d) 0 ≡ w d = rw e in omega (arith, sum-more n d l, sum-shares-le n l))
-      (λ (e : ltb (f d) n ≡ false). let m : cond (ltb (f d) n) (w d) 0 ≡ 0 = rw e in omega (arith, sum-more n d l, sum-shares-le n l))
-      (which (ltb (f d) n))
 
   pub sum-shares : (n : ℕ) (l : List A) → all (λ (d : A). ltb (f d) n) l ≡ true → sumTo n (λ (p : ℕ). total w (keep (λ (d : A). eqb (f d) p) l)) ≡ total w l
   sum-shares n [] h = sum-none n

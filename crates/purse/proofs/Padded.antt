@@ -2,9 +2,9 @@
 -- Assumes nothing.
 use Prim.Native.Nat.{ℕ, zero, suc, _+_, _-_, _≤_, _<_}
 use mathlib.Core.Path.{_≡_, refl, _∙_, sym, ap}
-use mathlib.Core.Bool.{Bool, true, _&&_}
+use mathlib.Core.Bool.{Bool, true}
 use mathlib.Core.List.{List, [], _∷_, _++_, append-assoc}
-use lib.ListN.{length, getD, take, drop, set, replicate, length-append, length-drop, length-replicate, length-set, take-append-drop, List·getD-append}
+use lib.ListN.{length, getD, take, drop, set, replicate, length-append, length-drop, length-replicate, length-set}
 use lib.Seq.{take-at, drop-at, set-append-left, take-append-le, drop-append-le, length-take-le}
 use native.Mathlib.Omega.{arith}
 use Rattle.purse.specs.Lists.{all, without, padded}
@@ -51,11 +51,14 @@ module _ {A : Type 0} where
   replicate-end zero z = refl
   replicate-end (suc n) z = ap (λ (t : List A). z ∷ t) (replicate-end n z)
 
+  pub length-without : (l : List A) (i : ℕ) → i < length l → length (without i l) ≡ length l - 1
+  length-without l i h =
+      omega (arith, length-append (take i l) (drop (suc i) l), length-take-le i l (omega arith), length-drop (suc i) l)
+
   pub pull-padded : (many : ℕ) (z : A) (l : List A) (i : ℕ) → i < length l → length l ≤ many → take i (padded many z l) ++ (drop (suc i) (padded many z l) ++ (z ∷ [])) ≡ padded many z (without i l)
   pull-padded many z l i h g =
       let r : List A = replicate (many - length l) z in
-      let k : length (without i l) ≡ length l - 1 = omega (arith, length-append (take i l) (drop (suc i) l), length-take-le i l (omega arith), length-drop (suc i) l) in
-      let e : many - length (without i l) ≡ suc (many - length l) = omega arith in
+      let e : many - length (without i l) ≡ suc (many - length l) = omega (arith, length-without l i h) in
       ap (λ (t : List A). t ++ (drop (suc i) (padded many z l) ++ (z ∷ []))) (take-append-le i l r (omega arith))
       ∙ (ap (λ (t : List A). take i l ++ (t ++ (z ∷ []))) (drop-append-le (suc i) l r h)
       ∙ (ap (λ (t : List A). take i l ++ t) (append-assoc (drop (suc i) l) r (z ∷ []))

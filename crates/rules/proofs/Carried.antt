@@ -3,7 +3,7 @@
 -- Assumes nothing.
 use Prim.Native.Nat.{ℕ, _+_, _≤_, _<_}
 use mathlib.Core.Path.{_≡_, refl, _∙_, sym, ap, subst}
-use mathlib.Core.Bool.{Bool, true, false, not, cond}
+use mathlib.Core.Bool.{true, false, cond}
 use mathlib.Core.Logic.{⊎-elim}
 use mathlib.Core.List.{List, [], _∷_, _++_, map}
 use lib.ListN.{length, getD}
@@ -13,25 +13,27 @@ use borrow.Author.Tests.{eqb-true, eqb-false}
 use Rattle.purse.specs.declared.Details.{Details}
 use Rattle.purse.specs.declared.Purse.{Purse}
 use Rattle.purse.specs.Lists.{all, among, distinct, total, sumTo}
+use Rattle.purse.specs.Tests.{first}
 use Rattle.purse.specs.Details.{sameDetails}
-use Rattle.purse.specs.Purse.{zeroPurse}
 use Rattle.purse.proofs.Bools.{which}
 use Rattle.purse.proofs.Count.{sum-same}
-use Rattle.purse.proofs.Padded.{read-anywhere}
 use Rattle.desk.specs.declared.Held.{Held}
 use Rattle.desk.specs.declared.Answered.{Answered}
-use Rattle.rules.specs.Bench.{Bench, purseAt, balanceAt}
+use Rattle.rules.specs.Bench.{Bench, balanceAt}
 use Rattle.rules.specs.Table.{tableOk}
 use Rattle.rules.specs.Events.{decoded}
-use Rattle.rules.specs.Steps.{acting, step}
+use Rattle.rules.specs.Steps.{step}
 use Rattle.rules.specs.Run.{openingNumber, opened, run, answers}
 use Rattle.rules.specs.Paid.{delivers, movedBy, moved, amountOf, matched, paidOut, takenIn, abortOf}
 use Rattle.rules.specs.Laid.{laid, seen, heldOk, heldStep, heldRun, heldAnswers, heldOpening}
 use Rattle.rules.specs.HeldPaid.{heldPurse, heldBalance, heldMoved, heldPaid, heldArrived}
+use Rattle.rules.specs.Orders.{heldOrder}
+use Rattle.rules.proofs.Facts.{is-table}
 use Rattle.rules.proofs.Places.{seen-laid, laid-seen, seen-ok, held-laid, step-laid}
+use Rattle.rules.proofs.Stores.{purse-laid}
 use Rattle.rules.proofs.Kept.{never, keep-step, keep-run}
-use Rattle.rules.proofs.Orders.{never-two}
-use Rattle.rules.proofs.Answers.{refused-same, others-same}
+use Rattle.rules.proofs.Orders.{event-order, never-two}
+use Rattle.rules.proofs.Refusals.{refused-same, others-same}
 use Rattle.rules.proofs.Opened.{opened-ok}
 use Rattle.rules.proofs.Safe.{sum-safe, arrived-paid, paid-once, arrived-once, stopped-safe, stops-done}
 
@@ -68,9 +70,6 @@ moved-laid k b (l ∷ ls) w =
     in
     λ i. e i ++ r i
 
-pub purse-laid : (b : Bench) (p : ℕ) → heldPurse (laid b) p ≡ purseAt b p
-purse-laid b p = read-anywhere 32 zeroPurse (b .purses) p
-
 balance-laid : (b : Bench) (p : ℕ) → heldBalance (laid b) p ≡ balanceAt b p
 balance-laid b p = ap (λ (q : Purse). q .balance .0) (purse-laid b p)
 
@@ -100,7 +99,16 @@ held-never-two h l =
     by-held h l (λ (h : Held) (a : Answered). heldOk h ≡ true → a .answer ≡ 2 → ⊥) (λ no ok. absurd (never _ ok no))
     (λ b w ok. never-two b l w)
 
--- any table and desk: a refusal changes nothing
+-- any table and desk: the answer is the first test that applies, in document 01's order
+pub held-answer-order : (h : Held) (l : List ℕ) → heldStep h l .answer ≡ first (heldOrder h l)
+unfolding heldStep
+held-answer-order h l =
+    ⊎-elim
+    (λ (w : heldOk h ≡ true). rw w (event-order (seen h) (is-table (seen h) (seen-ok h w)) (decoded l)))
+    (λ (w : heldOk h ≡ false). rw w)
+    (which (heldOk h))
+
+-- a refusal changes nothing
 pub held-refused-same : (h : Held) (l : List ℕ) → 2 ≤ heldStep h l .answer → heldStep h l .held ≡ h
 held-refused-same h l =
     by-held h l (λ (h : Held) (a : Answered). 2 ≤ a .answer → a .held ≡ h) (λ no high. refl)
@@ -136,9 +144,12 @@ module _ (bs : List ℕ) (es : List (List ℕ)) (ok : openingNumber bs ≡ 0) wh
   pub held-sum-safe : sumTo (length bs) (heldBalance (heldRun (laid (opened bs)) es)) ≤ sumTo (length bs) (heldBalance (laid (opened bs)))
   held-sum-safe =
       rw ran
-      (omega (arith, sum-safe bs es ok,
-      sum-same (length bs) (heldBalance (laid (run (opened bs) es))) (balanceAt (run (opened bs) es)) (λ (p : ℕ) (l : p < length bs). balance-laid (run (opened bs) es) p),
-      sum-same (length bs) (heldBalance (laid (opened bs))) (balanceAt (opened bs)) (λ (p : ℕ) (l : p < length bs). balance-laid (opened bs) p)))
+      (omega (
+        arith,
+        sum-safe bs es ok,
+        sum-same (length bs) (heldBalance (laid (run (opened bs) es))) (balanceAt (run (opened bs) es)) (λ (p : ℕ) (l : p < length bs). balance-laid (run (opened bs) es) p),
+        sum-same (length bs) (heldBalance (laid (opened bs))) (balanceAt (opened bs)) (λ (p : ℕ) (l : p < length bs). balance-laid (opened bs) p),
+      ))
 
   pub held-arrived-paid : (d : Details) → among sameDetails d (heldArrived (laid (opened bs)) es) ≡ true → among sameDetails d (heldPaid (laid (opened bs)) es) ≡ true
   held-arrived-paid = rw (moved-laid 2 (opened bs) es (opened-ok bs ok), moved-laid 1 (opened bs) es (opened-ok bs ok)) (arrived-paid bs es ok)

@@ -1,9 +1,9 @@
 -- What the bench promises, on one page: for every list of balances that opens and every list of events, bytes of any content and length.
--- Each promise stands once for the bench as three lists and once for the lent table and the desk. The definitions that they cite are all
--- of specs/ (but `order`, document 01's lists of tests, of Orders.antt); the proofs are cited.
+-- Each promise stands once for the bench as three lists and once for the lent table and the desk. All definitions that it cites are of
+-- specs/; each proof is a citation.
 -- Assumes nothing.
 use Prim.Native.Nat.{ℕ, _+_, _≤_, _<_}
-use mathlib.Core.Path.{_≡_, ap, _∙_}
+use mathlib.Core.Path.{_≡_}
 use mathlib.Core.Bool.{true}
 use mathlib.Core.List.{List, _++_, map}
 use lib.ListN.{length, getD}
@@ -20,9 +20,10 @@ use Rattle.rules.specs.Run.{openingNumber, opened, run, answers}
 use Rattle.rules.specs.Paid.{paid, arrived, amountOf, paidOut, takenIn, matched, abortOf}
 use Rattle.rules.specs.Laid.{laid, seen, heldOk, heldStep, heldRun, heldAnswers, heldOpening}
 use Rattle.rules.specs.HeldPaid.{heldPurse, heldBalance, heldPaid, heldArrived}
+use Rattle.rules.specs.Orders.{order, heldOrder}
 use Rattle.rules.proofs.Kept.{keep-step}
-use Rattle.rules.proofs.Orders.{order, answer-order}
-use Rattle.rules.proofs.Answers.{refused-same, others-same}
+use Rattle.rules.proofs.Orders.{answer-order}
+use Rattle.rules.proofs.Refusals.{refused-same, others-same}
 use Rattle.rules.proofs.Opened.{opened-ok, opened-never-two}
 use Rattle.rules.proofs.Safe.{sum-safe, arrived-paid, paid-once, arrived-once, stopped-safe, stops-done}
 use Rattle.rules.proofs.Carried as lent
@@ -47,47 +48,53 @@ module _ (b : Bench) (event : List ℕ) where
 
 -- an opened bench, after a list of events
 module _ (balances : List ℕ) (events : List (List ℕ)) (opens : openingNumber balances ≡ 0) where
-  pub opened-obeys-the-rules : tableOk (opened balances) ≡ true
+  abbrev start : Bench
+  start = opened balances
+
+  pub opened-obeys-the-rules : tableOk start ≡ true
   opened-obeys-the-rules = opened-ok balances opens
 
-  -- "table not well formed" is never answered
-  pub never-two : (event : List ℕ) → step (run (opened balances) events) event .answer ≡ 2 → ⊥
+  -- 2, "table not well formed", is never answered
+  pub never-two : (event : List ℕ) → step (run start events) event .answer ≡ 2 → ⊥
   never-two event = opened-never-two balances events event opens
 
   -- demand 3: at every moment the balances sum to no more than the opening sum
-  pub sum-never-grows : sumTo (length balances) (balanceAt (run (opened balances) events)) ≤ sumTo (length balances) (balanceAt (opened balances))
+  pub sum-never-grows : sumTo (length balances) (balanceAt (run start events)) ≤ sumTo (length balances) (balanceAt start)
   sum-never-grows = sum-safe balances events opens
 
   -- nothing arrives that was not paid, nothing is paid twice, nothing arrives twice
-  pub nothing-arrives-unpaid : (d : Details) → among sameDetails d (arrived (opened balances) events) ≡ true → among sameDetails d (paid (opened balances) events) ≡ true
+  pub nothing-arrives-unpaid : (d : Details) → among sameDetails d (arrived start events) ≡ true → among sameDetails d (paid start events) ≡ true
   nothing-arrives-unpaid = arrived-paid balances events opens
 
-  pub nothing-is-paid-twice : distinct sameDetails (paid (opened balances) events) ≡ true
+  pub nothing-is-paid-twice : distinct sameDetails (paid start events) ≡ true
   nothing-is-paid-twice = paid-once balances events opens
 
-  pub nothing-arrives-twice : distinct sameDetails (arrived (opened balances) events) ≡ true
+  pub nothing-arrives-twice : distinct sameDetails (arrived start events) ≡ true
   nothing-arrives-twice = arrived-once balances events opens
 
-  -- "To stop a purse is to give it an abort event": no stop of a purse of the table is refused
-  pub stops-are-done : (names : List ℕ) → all (λ (p : ℕ). ltb p (length balances)) names ≡ true → answers (run (opened balances) events) (map abortOf names) ≡ map (λ (p : ℕ). 0) names
-  stops-are-done names = λ in-table. stops-done balances events names opens in-table
+  -- "To stop a purse is to give it an abort event": the stop of a purse of the table answers 0
+  pub stops-are-done : (names : List ℕ) → all (λ (p : ℕ). ltb p (length balances)) names ≡ true → answers (run start events) (map abortOf names) ≡ map (λ (p : ℕ). 0) names
+  stops-are-done names in-table = stops-done balances events names opens in-table
 
--- demand 3: stop every purse, in any order. Then, of each purse, the balance and what its matched log pairs record, and its payments that
--- arrived, are its opening balance and the payments that arrived in it
-module _ (balances : List ℕ) (events : List (List ℕ)) (opens : openingNumber balances ≡ 0) (names : List ℕ) (every : (p : ℕ) → p < length balances → among eqb p names ≡ true) where
-  abbrev pub stoppedBench : Bench
-  stoppedBench = run (opened balances) (events ++ map abortOf names)
+  -- demand 3: stop every purse, in any order. Then, of each purse: its balance, what its matched log pairs record, and its payments that
+  -- arrived, are its opening balance and the payments that arrived in it
+  module _ (names : List ℕ) (every : (p : ℕ) → p < length balances → among eqb p names ≡ true) where
+    abbrev all-events : List (List ℕ)
+    all-events = events ++ map abortOf names
 
-  abbrev pub allArrived : List Details
-  allArrived = arrived (opened balances) (events ++ map abortOf names)
+    abbrev end : Bench
+    end = run start all-events
 
-  pub stopped-balances : (p : ℕ) → p < length balances → balanceAt stoppedBench p + total amountOf (matched stoppedBench p) + paidOut p allArrived ≡ balanceAt (opened balances) p + takenIn p allArrived
-  stopped-balances = stopped-safe balances events names opens every
+    pub stopped-balances : (p : ℕ) → p < length balances → balanceAt end p + total amountOf (matched end p) + paidOut p (arrived start all-events) ≡ balanceAt start p + takenIn p (arrived start all-events)
+    stopped-balances = stopped-safe balances events names opens every
 
 -- the same of the lent table and the desk: any, and any event
 module _ (h : Held) (event : List ℕ) where
   pub lent-step-keeps-the-rules : heldOk h ≡ true → heldOk (heldStep h event .held) ≡ true
   lent-step-keeps-the-rules = lent.held-kept h event
+
+  pub lent-first-that-applies : heldStep h event .answer ≡ first (heldOrder h event)
+  lent-first-that-applies = lent.held-answer-order h event
 
   pub lent-refusal-changes-nothing : 2 ≤ heldStep h event .answer → heldStep h event .held ≡ h
   lent-refusal-changes-nothing = lent.held-refused-same h event
@@ -96,44 +103,44 @@ module _ (h : Held) (event : List ℕ) where
   lent-others-untouched = lent.held-others-same h event
 
 -- whatever table and desk were lent to the opening, where it answers 0
-abbrev pub openedHeld : Held → List ℕ → Held
-openedHeld lentBefore balances = heldOpening lentBefore balances .held
+module _ (before : Held) (balances : List ℕ) (events : List (List ℕ)) (opens : heldOpening before balances .answer ≡ 0) where
+  abbrev lent-start : Held
+  lent-start = heldOpening before balances .held
 
-module _ (lentBefore : Held) (balances : List ℕ) (events : List (List ℕ)) (opens : heldOpening lentBefore balances .answer ≡ 0) where
-  laidOut : openedHeld lentBefore balances ≡ laid (opened balances)
-  laidOut = lent.held-opens lentBefore balances opens .1
+  -- it is the opened bench, laid out
+  starts-laid : heldOpening before balances .held ≡ laid (opened balances)
+  starts-laid = lent.held-opens before balances opens .1
 
   opening : openingNumber balances ≡ 0
-  opening = lent.held-opens lentBefore balances opens .0
+  opening = lent.held-opens before balances opens .0
 
-  pub lent-obeys-the-rules : heldOk (heldRun (openedHeld lentBefore balances) events) ≡ true
-  lent-obeys-the-rules = rw laidOut (lent.held-run-ok balances events opening)
+  pub lent-obeys-the-rules : heldOk (heldRun lent-start events) ≡ true
+  lent-obeys-the-rules = rw starts-laid (lent.held-run-ok balances events opening)
 
-  pub lent-never-two : (event : List ℕ) → heldStep (heldRun (openedHeld lentBefore balances) events) event .answer ≡ 2 → ⊥
-  lent-never-two event = lent.held-never-two (heldRun (openedHeld lentBefore balances) events) event lent-obeys-the-rules
+  pub lent-never-two : (event : List ℕ) → heldStep (heldRun lent-start events) event .answer ≡ 2 → ⊥
+  lent-never-two event = lent.held-never-two (heldRun lent-start events) event lent-obeys-the-rules
 
-  pub lent-sum-never-grows : sumTo (length balances) (heldBalance (heldRun (openedHeld lentBefore balances) events)) ≤ sumTo (length balances) (heldBalance (openedHeld lentBefore balances))
-  lent-sum-never-grows = rw laidOut (lent.held-sum-safe balances events opening)
+  pub lent-sum-never-grows : sumTo (length balances) (heldBalance (heldRun lent-start events)) ≤ sumTo (length balances) (heldBalance lent-start)
+  lent-sum-never-grows = rw starts-laid (lent.held-sum-safe balances events opening)
 
-  pub lent-nothing-arrives-unpaid : (d : Details) → among sameDetails d (heldArrived (openedHeld lentBefore balances) events) ≡ true → among sameDetails d (heldPaid (openedHeld lentBefore balances) events) ≡ true
-  lent-nothing-arrives-unpaid = rw laidOut (lent.held-arrived-paid balances events opening)
+  pub lent-nothing-arrives-unpaid : (d : Details) → among sameDetails d (heldArrived lent-start events) ≡ true → among sameDetails d (heldPaid lent-start events) ≡ true
+  lent-nothing-arrives-unpaid = rw starts-laid (lent.held-arrived-paid balances events opening)
 
-  pub lent-nothing-is-paid-twice : distinct sameDetails (heldPaid (openedHeld lentBefore balances) events) ≡ true
-  lent-nothing-is-paid-twice = rw laidOut (lent.held-paid-once balances events opening)
+  pub lent-nothing-is-paid-twice : distinct sameDetails (heldPaid lent-start events) ≡ true
+  lent-nothing-is-paid-twice = rw starts-laid (lent.held-paid-once balances events opening)
 
-  pub lent-nothing-arrives-twice : distinct sameDetails (heldArrived (openedHeld lentBefore balances) events) ≡ true
-  lent-nothing-arrives-twice = rw laidOut (lent.held-arrived-once balances events opening)
+  pub lent-nothing-arrives-twice : distinct sameDetails (heldArrived lent-start events) ≡ true
+  lent-nothing-arrives-twice = rw starts-laid (lent.held-arrived-once balances events opening)
 
-  pub lent-stops-are-done : (names : List ℕ) → all (λ (p : ℕ). ltb p (length balances)) names ≡ true → heldAnswers (heldRun (openedHeld lentBefore balances) events) (map abortOf names) ≡ map (λ (p : ℕ). 0) names
-  lent-stops-are-done = rw laidOut (lent.held-stops-done balances events opening)
+  pub lent-stops-are-done : (names : List ℕ) → all (λ (p : ℕ). ltb p (length balances)) names ≡ true → heldAnswers (heldRun lent-start events) (map abortOf names) ≡ map (λ (p : ℕ). 0) names
+  lent-stops-are-done = rw starts-laid (lent.held-stops-done balances events opening)
 
--- what a stopped bench's purse p has, and what it has had
-abbrev pub lentStopped : Held → List (List ℕ) → List ℕ → Held
-lentStopped h events names = heldRun h (events ++ map abortOf names)
+  module _ (names : List ℕ) (every : (p : ℕ) → p < length balances → among eqb p names ≡ true) where
+    abbrev lent-all-events : List (List ℕ)
+    lent-all-events = events ++ map abortOf names
 
-abbrev pub lentArrived : Held → List (List ℕ) → List ℕ → List Details
-lentArrived h events names = heldArrived h (events ++ map abortOf names)
+    abbrev lent-end : Held
+    lent-end = heldRun lent-start lent-all-events
 
-pub lent-stopped-balances : (lentBefore : Held) (balances : List ℕ) (events : List (List ℕ)) (names : List ℕ) → heldOpening lentBefore balances .answer ≡ 0 → ((p : ℕ) → p < length balances → among eqb p names ≡ true) → (p : ℕ) → p < length balances → heldBalance (lentStopped (openedHeld lentBefore balances) events names) p + total amountOf (matched (seen (lentStopped (openedHeld lentBefore balances) events names)) p) + paidOut p (lentArrived (openedHeld lentBefore balances) events names) ≡ heldBalance (openedHeld lentBefore balances) p + takenIn p (lentArrived (openedHeld lentBefore balances) events names)
-lent-stopped-balances lentBefore balances events names opens every p below =
-    rw (laidOut lentBefore balances events opens) (lent.held-stopped-safe balances events names (opening lentBefore balances events opens) every p below)
+    pub lent-stopped-balances : (p : ℕ) → p < length balances → heldBalance lent-end p + total amountOf (matched (seen lent-end) p) + paidOut p (heldArrived lent-start lent-all-events) ≡ heldBalance lent-start p + takenIn p (heldArrived lent-start lent-all-events)
+    lent-stopped-balances = rw starts-laid (lent.held-stopped-safe balances events names opening every)

@@ -1,9 +1,8 @@
 -- "At the edges": the lines of document 01 that are proved of the rules, one table under one statement, by computation.
 -- Assumes nothing.
-use Prim.Native.Nat.{ℕ, zero, suc, _/_, _%_}
+use Prim.Native.Nat.{ℕ, zero, suc}
 use mathlib.Core.Path.{_≡_, refl}
-use mathlib.Core.List.{List, [], _∷_, _++_, map}
-use Rattle.purse.specs.declared.Details.{Details}
+use mathlib.Core.List.{List, [], _∷_, map}
 use Rattle.purse.specs.declared.Message.{Message}
 use Rattle.purse.specs.Lists.{padded}
 use Rattle.purse.specs.Details.{zeroDetails, sameDetails, sameMessage, legal, named, asPayer, asPayee, entryOk, absent}
@@ -14,59 +13,8 @@ use Rattle.rules.specs.Bench.{Bench, called}
 use Rattle.rules.specs.Table.{countsOk, inTable, purseOk, messageOk, archiveOk, onceOk, clearOk, tableOk}
 use Rattle.rules.specs.Events.{decoded}
 use Rattle.rules.specs.Steps.{acting, step}
-use Rattle.rules.specs.Run.{opened, openedAt, run}
-
--- a number's four bytes, and an event's twelve
-abbrev word : ℕ → List ℕ
-word n = n / 16777216 ∷ n / 65536 % 256 ∷ n / 256 % 256 ∷ n % 256 ∷ []
-
-abbrev pub event : ℕ → ℕ → ℕ → ℕ → ℕ → List ℕ
-event kind purse other num amount = (kind ∷ purse ∷ other ∷ 0 ∷ []) ++ word num ++ word amount
-
--- purse p starts a payment to, or from, purse o, whose number is 1
-abbrev pub from : ℕ → ℕ → ℕ → List ℕ
-from p o amount = event 1 p o 1 amount
-
-abbrev pub to : ℕ → ℕ → ℕ → List ℕ
-to p o amount = event 2 p o 1 amount
-
--- purse p gets the message at place i
-abbrev pub delivery : ℕ → ℕ → List ℕ
-delivery p i = event 3 p 0 i 0
-
--- a payment by purse 0 to purse 1
-abbrev pub payment : ℕ → ℕ → ℕ → Details
-payment payerseq payeeseq amount =
-    record {
-      payer = called 0;
-      payerseq = record { 0 = payerseq };
-      payee = called 1;
-      payeeseq = record { 0 = payeeseq };
-      amount = record { 0 = amount };
-    }
-
--- payments of purse 0 with its numbers 1 to n
-abbrev payments : ℕ → List Details
-payments zero = []
-payments (suc n) = payments n ++ (payment (suc n) 1 5 ∷ [])
-
--- purse 0 idle with a balance, a next number and n log entries, and an opened purse 1
-abbrev pub pair : ℕ → ℕ → ℕ → Bench
-pair balance next n =
-    record {
-      purses =
-          record {
-            balance = record { 0 = balance };
-            next = record { 0 = next };
-            status = 0;
-            details = zeroDetails;
-            log = padded logPlaces zeroDetails (payments n);
-            logged = n;
-          }
-          ∷ openedAt 0 ∷ [];
-      messages = [];
-      archive = [];
-    }
+use Rattle.rules.specs.Run.{opened, run}
+use Rattle.rules.proofs.Samples.{event, from, to, delivery, payment, pair}
 
 -- what stands, what happens, and the number that document 01 gives
 pub record Case : Type 0 where

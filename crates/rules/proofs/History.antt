@@ -3,7 +3,7 @@
 -- Assumes nothing.
 use Prim.Native.Nat.{ℕ, _+_, _≤_, _<_}
 use mathlib.Core.Path.{_≡_, refl, _∙_, sym, ap}
-use mathlib.Core.Bool.{true, false, not, cond}
+use mathlib.Core.Bool.{true, false, cond}
 use mathlib.Core.Logic.{_⊎_, inl, inr, ⊎-elim}
 use mathlib.Core.List.{List, [], _∷_, _++_, append-nil, append-assoc}
 use lib.ListN.{length, getD}
@@ -16,7 +16,7 @@ use Rattle.purse.specs.declared.Amount.{Amount}
 use Rattle.purse.specs.declared.Details.{Details}
 use Rattle.purse.specs.declared.Message.{Message}
 use Rattle.purse.specs.declared.Purse.{Purse}
-use Rattle.purse.specs.Details.{zeroDetails, zeroMessage, sameDetails, sameMessage}
+use Rattle.purse.specs.Details.{request, value, acknowledge, zeroDetails, zeroMessage, sameDetails, sameMessage}
 use Rattle.purse.specs.Step.{stopped, taken}
 use Rattle.purse.specs.Lists.{keep, total, without}
 use Rattle.purse.proofs.Rules.{can-pay}
@@ -201,6 +201,19 @@ module _ (opening : ℕ → ℕ) (b : Bench) (t : Table b) (P A : List Details) 
         backed = λ m l. inl l;
       })
 
+  -- purse p replaced, and the payer's side of no payment moves; likewise the payee's
+  payer-still : (p : ℕ) (q : Purse) → p < length (b .purses) → (q .status ≡ 1 → ⊥) → (q .status ≡ 3 → ⊥) → (purseAt b p .status ≡ 3 → ⊥) → ((d : Details) → d .payer .0 ≡ p → countD d (kept q) ≡ countD d (kept (purseAt b p))) → (d : Details) → PayerSide d 0 0 0 0 0 (purseAt b (d .payer .0)) (purseAt (withPurse b p q) (d .payer .0))
+  payer-still p q hp n1 n3 o3 log d =
+      put-cases b p q hp (d .payer .0) (PayerSide d 0 0 0 0 0)
+      (λ e. record { epr = omega (arith, at-no q 1 d n1); epa = omega (arith, at-no q 3 d n3, at-no (purseAt b p) 3 d o3); log = omega (arith, log d e) })
+      (λ e r. record { epr = omega arith; epa = refl; log = omega arith })
+
+  payee-still : (p : ℕ) (q : Purse) → p < length (b .purses) → (q .status ≡ 2 → ⊥) → (purseAt b p .status ≡ 2 → ⊥) → ((d : Details) → d .payee .0 ≡ p → countD d (kept q) ≡ countD d (kept (purseAt b p))) → (d : Details) → PayeeSide d 0 0 0 (purseAt b (d .payee .0)) (purseAt (withPurse b p q) (d .payee .0))
+  payee-still p q hp n2 o2 log d =
+      put-cases b p q hp (d .payee .0) (PayeeSide d 0 0 0)
+      (λ e. record { epv = omega (arith, at-no q 2 d n2, at-no (purseAt b p) 2 d o2); log = omega (arith, log d e) })
+      (λ e r. record { epv = refl; log = omega arith })
+
   hist-from : (p : ℕ) (o : Name) (s : Seq) (a : Amount) → Started b p (o .0) → Good p (begunFrom b p o s a) → History opening (withPurse b p (begunFrom b p o s a)) (P ++ []) (A ++ [])
   hist-from p o s a st w =
       let q : Purse = purseAt b p in
@@ -216,10 +229,7 @@ module _ (opening : ℕ → ℕ) (b : Bench) (t : Table b) (P A : List Details) 
       (λ e r. record { epr = omega arith; epa = refl; log = omega arith })
       in
       let es : (d : Details) → PayeeSide d 0 0 0 (purseAt b (d .payee .0)) (purseAt c (d .payee .0)) =
-      λ (d : Details).
-      put-cases b p q′ (st .here) (d .payee .0) (PayeeSide d 0 0 0)
-      (λ e. record { epv = omega (arith, no 2 (omega arith) d); log = omega arith })
-      (λ e r. record { epv = refl; log = omega arith })
+      payee-still p q′ (st .here) (λ y. omega arith) (λ y. omega arith) (λ d e. refl)
       in
       let fresh : countD D P ≡ 0 = none _ (λ (l : 1 ≤ countD D P). omega (arith, h .placed D l .payerseq)) in
       quiet p q′ (st .here) (omega arith) refl
@@ -238,7 +248,7 @@ module _ (opening : ℕ → ℕ) (b : Bench) (t : Table b) (P A : List Details) 
       at-end m₀ m (b .messages) (λ (m : Message). (1 ≤ countM m (b .messages)) ⊎ Backed c (P ++ x) (A ++ y) m) (rw (e ∙ f .0) at l) (inr k) (λ j. inl j))
       s
 
-  hist-to : (p : ℕ) (o : Name) (s : Seq) (a : Amount) → Started b p (o .0) → Good p (begunTo b p o s a) → (ms : List Message) → Sent b (messageOf 1 (toOf b p o s a)) ms → History opening (withMessages (withPurse b p (begunTo b p o s a)) ms) (P ++ []) (A ++ [])
+  hist-to : (p : ℕ) (o : Name) (s : Seq) (a : Amount) → Started b p (o .0) → Good p (begunTo b p o s a) → (ms : List Message) → Sent b (messageOf request (toOf b p o s a)) ms → History opening (withMessages (withPurse b p (begunTo b p o s a)) ms) (P ++ []) (A ++ [])
   hist-to p o s a st w ms sn =
       let q : Purse = purseAt b p in
       let q′ : Purse = begunTo b p o s a in
@@ -247,10 +257,7 @@ module _ (opening : ℕ → ℕ) (b : Bench) (t : Table b) (P A : List Details) 
       let z : q .status ≡ 0 = st .idle in
       let no : (k : ℕ) → 1 ≤ k → (d : Details) → bit (isAt k q d) ≡ 0 = λ (k : ℕ) (l : 1 ≤ k) (d : Details). at-no q k d (λ (y : q .status ≡ k). omega arith) in
       let ps : (d : Details) → PayerSide d 0 0 0 0 0 (purseAt b (d .payer .0)) (purseAt c (d .payer .0)) =
-      λ (d : Details).
-      put-cases b p q′ (st .here) (d .payer .0) (PayerSide d 0 0 0 0 0)
-      (λ e. record { epr = omega (arith, no 1 (omega arith) d); epa = omega (arith, no 3 (omega arith) d); log = omega arith })
-      (λ e r. record { epr = omega arith; epa = refl; log = omega arith })
+      payer-still p q′ (st .here) (λ y. omega arith) (λ y. omega arith) (λ y. omega arith) (λ d e. refl)
       in
       let es : (d : Details) → PayeeSide d 0 (bit (sameDetails d D)) 0 (purseAt b (d .payee .0)) (purseAt c (d .payee .0)) =
       λ (d : Details).
@@ -275,11 +282,11 @@ module _ (opening : ℕ → ℕ) (b : Bench) (t : Table b) (P A : List Details) 
             (λ none. omega (arith, ps d, es d, h .counts d));
         rises = λ (d : Details). omega (arith, es d .epv, es d .log);
         backed =
-            sent-backed c [] [] (messageOf 1 D) ms refl sn
+            sent-backed c [] [] (messageOf request D) ms refl sn
             (record { request = λ j. omega (arith, es D .epv); value = λ (j : 1 ≡ 2). absurd (omega arith); acknowledge = λ (j : 1 ≡ 3). absurd (omega arith) });
       })
 
-  hist-pay : (p : ℕ) → Taking b p 1 → Good p (payerAfter b p) → (ms : List Message) → Sent b (messageOf 2 (purseAt b p .details)) ms → History opening (withMessages (withPurse b p (payerAfter b p)) ms) (P ++ (purseAt b p .details ∷ [])) (A ++ [])
+  hist-pay : (p : ℕ) → Taking b p request → Good p (payerAfter b p) → (ms : List Message) → Sent b (messageOf value (purseAt b p .details)) ms → History opening (withMessages (withPurse b p (payerAfter b p)) ms) (P ++ (purseAt b p .details ∷ [])) (A ++ [])
   hist-pay p g w ms sn =
       let q : Purse = purseAt b p in
       let q′ : Purse = payerAfter b p in
@@ -295,16 +302,13 @@ module _ (opening : ℕ → ℕ) (b : Bench) (t : Table b) (P A : List Details) 
       (λ e r. record { epr = omega (arith, other-payer p d D mine e); epa = omega (arith, other-payer p d D mine e); log = omega arith })
       in
       let es : (d : Details) → PayeeSide d 0 0 0 (purseAt b (d .payee .0)) (purseAt c (d .payee .0)) =
-      λ (d : Details).
-      put-cases b p q′ (g .here) (d .payee .0) (PayeeSide d 0 0 0)
-      (λ e. record { epv = omega (arith, at-no q 2 d (λ (y : q .status ≡ 2). omega arith)); log = omega arith })
-      (λ e r. record { epv = refl; log = omega arith })
+      payee-still p q′ (g .here) (λ y. omega arith) (λ y. omega arith) (λ d e. refl)
       in
-      let k : MessageOk b (messageOf 1 D) = t .message (messageOf 1 D) (g .stands) in
+      let k : MessageOk b (messageOf request D) = t .message (messageOf request D) (g .stands) in
       let gr : Grown b c = grown-with ms (b .archive) (grown-put b p q′ (g .here) (omega arith)) in
       let own : purseAt b (D .payer .0) .next .0 ≡ q .next .0 = ap (λ (n : ℕ). purseAt b n .next .0) mine in
       let here : bit (sameDetails D D) ≡ 1 = rw (details-same D) in
-      let asked : 1 ≤ epv b D + payeeLog b D + countD D A = h .backed (messageOf 1 D) (g .stands) .request refl in
+      let asked : 1 ≤ epv b D + payeeLog b D + countD D A = h .backed (messageOf request D) (g .stands) .request refl in
       let enough : amountOf D ≤ q .balance .0 = can-pay (called p) q (t .well p (g .here)) z in
       after h
       (record {
@@ -325,7 +329,7 @@ module _ (opening : ℕ → ℕ) (b : Bench) (t : Table b) (P A : List Details) 
             (λ none. omega (arith, ps d, es d, h .counts d));
         rises = λ (d : Details). omega (arith, es d .epv, es d .log);
         backed =
-            sent-backed c (D ∷ []) [] (messageOf 2 D) ms refl sn
+            sent-backed c (D ∷ []) [] (messageOf value D) ms refl sn
             (record {
               request = λ (j : 2 ≡ 1). absurd (omega arith);
               value = λ j. omega (arith, times-append sameDetails D P (D ∷ []));
@@ -333,7 +337,7 @@ module _ (opening : ℕ → ℕ) (b : Bench) (t : Table b) (P A : List Details) 
             });
       })
 
-  hist-get : (p : ℕ) → Taking b p 2 → Good p (payeeAfter b p) → (ms : List Message) → Sent b (messageOf 3 (purseAt b p .details)) ms → History opening (withMessages (withPurse b p (payeeAfter b p)) ms) (P ++ []) (A ++ (purseAt b p .details ∷ []))
+  hist-get : (p : ℕ) → Taking b p value → Good p (payeeAfter b p) → (ms : List Message) → Sent b (messageOf acknowledge (purseAt b p .details)) ms → History opening (withMessages (withPurse b p (payeeAfter b p)) ms) (P ++ []) (A ++ (purseAt b p .details ∷ []))
   hist-get p g w ms sn =
       let q : Purse = purseAt b p in
       let q′ : Purse = payeeAfter b p in
@@ -343,10 +347,7 @@ module _ (opening : ℕ → ℕ) (b : Bench) (t : Table b) (P A : List Details) 
       let role : OwnPayee (called p) q = payee-role (called p) q (t .well p (g .here)) z in
       let mine : D .payee .0 ≡ p = role .name in
       let ps : (d : Details) → PayerSide d 0 0 0 0 0 (purseAt b (d .payer .0)) (purseAt c (d .payer .0)) =
-      λ (d : Details).
-      put-cases b p q′ (g .here) (d .payer .0) (PayerSide d 0 0 0 0 0)
-      (λ e. record { epr = omega arith; epa = omega (arith, at-no q 3 d (λ (y : q .status ≡ 3). omega arith)); log = omega arith })
-      (λ e r. record { epr = omega arith; epa = refl; log = omega arith })
+      payer-still p q′ (g .here) (λ y. omega arith) (λ y. omega arith) (λ y. omega arith) (λ d e. refl)
       in
       let es : (d : Details) → PayeeSide d (bit (sameDetails d D)) 0 0 (purseAt b (d .payee .0)) (purseAt c (d .payee .0)) =
       λ (d : Details).
@@ -355,7 +356,7 @@ module _ (opening : ℕ → ℕ) (b : Bench) (t : Table b) (P A : List Details) 
       (λ e r. record { epv = omega (arith, other-payee p d D mine e); log = omega arith })
       in
       let here : bit (sameDetails D D) ≡ 1 = rw (details-same D) in
-      let was : 1 ≤ countD D P = h .backed (messageOf 2 D) (g .stands) .value refl in
+      let was : 1 ≤ countD D P = h .backed (messageOf value D) (g .stands) .value refl in
       after h
       (record {
         grown = grown-with ms (b .archive) (grown-put b p q′ (g .here) (omega arith));
@@ -372,7 +373,7 @@ module _ (opening : ℕ → ℕ) (b : Bench) (t : Table b) (P A : List Details) 
             (λ none. omega (arith, ps d, es d, h .counts d));
         rises = λ (d : Details). omega (arith, es d .epv, es d .log);
         backed =
-            sent-backed c [] (D ∷ []) (messageOf 3 D) ms refl sn
+            sent-backed c [] (D ∷ []) (messageOf acknowledge D) ms refl sn
             (record {
               request = λ (j : 3 ≡ 1). absurd (omega arith);
               value = λ (j : 3 ≡ 2). absurd (omega arith);
@@ -380,7 +381,7 @@ module _ (opening : ℕ → ℕ) (b : Bench) (t : Table b) (P A : List Details) 
             });
       })
 
-  hist-settle : (p : ℕ) → Taking b p 3 → Good p (idleAfter b p) → History opening (withPurse b p (idleAfter b p)) (P ++ []) (A ++ [])
+  hist-settle : (p : ℕ) → Taking b p acknowledge → Good p (idleAfter b p) → History opening (withPurse b p (idleAfter b p)) (P ++ []) (A ++ [])
   hist-settle p g w =
       let q : Purse = purseAt b p in
       let q′ : Purse = idleAfter b p in
@@ -396,12 +397,9 @@ module _ (opening : ℕ → ℕ) (b : Bench) (t : Table b) (P A : List Details) 
       (λ e r. record { epr = omega arith; epa = omega (arith, other-payer p d D mine e); log = omega arith })
       in
       let es : (d : Details) → PayeeSide d 0 0 0 (purseAt b (d .payee .0)) (purseAt c (d .payee .0)) =
-      λ (d : Details).
-      put-cases b p q′ (g .here) (d .payee .0) (PayeeSide d 0 0 0)
-      (λ e. record { epv = omega (arith, at-no q 2 d (λ (y : q .status ≡ 2). omega arith)); log = omega arith })
-      (λ e r. record { epv = refl; log = omega arith })
+      payee-still p q′ (g .here) (λ y. omega arith) (λ y. omega arith) (λ d e. refl)
       in
-      let came : 1 ≤ countD D A = h .backed (messageOf 3 D) (g .stands) .acknowledge refl in
+      let came : 1 ≤ countD D A = h .backed (messageOf acknowledge D) (g .stands) .acknowledge refl in
       quiet p q′ (g .here) (omega arith) refl
       (λ (d : Details).
       by-same d D (λ (d : Details). CountsAt c d (countD d P + 0) (countD d A + 0))
@@ -415,16 +413,10 @@ module _ (opening : ℕ → ℕ) (b : Bench) (t : Table b) (P A : List Details) 
       let q′ : Purse = idleAfter b p in
       let c : Bench = withPurse b p q′ in
       let ps : (d : Details) → PayerSide d 0 0 0 0 0 (purseAt b (d .payer .0)) (purseAt c (d .payer .0)) =
-      λ (d : Details).
-      put-cases b p q′ hp (d .payer .0) (PayerSide d 0 0 0 0 0)
-      (λ e. record { epr = omega arith; epa = omega (arith, at-no q 3 d (λ (y : q .status ≡ 3). omega arith)); log = omega arith })
-      (λ e r. record { epr = omega arith; epa = refl; log = omega arith })
+      payer-still p q′ hp (λ y. omega arith) (λ y. omega arith) (λ y. omega arith) (λ d e. refl)
       in
       let es : (d : Details) → PayeeSide d 0 0 0 (purseAt b (d .payee .0)) (purseAt c (d .payee .0)) =
-      λ (d : Details).
-      put-cases b p q′ hp (d .payee .0) (PayeeSide d 0 0 0)
-      (λ e. record { epv = omega (arith, at-no q 2 d (λ (y : q .status ≡ 2). omega arith)); log = omega arith })
-      (λ e r. record { epv = refl; log = omega arith })
+      payee-still p q′ hp (λ y. omega arith) (λ y. omega arith) (λ d e. refl)
       in
       quiet p q′ hp (omega arith) refl
       (λ (d : Details). omega (arith, ps d, es d, h .counts d))
@@ -450,10 +442,7 @@ module _ (opening : ℕ → ℕ) (b : Bench) (t : Table b) (P A : List Details) 
       (λ (z : q .status ≡ 2).
       let mine : D .payee .0 ≡ p = payee-role (called p) q (t .well p hp) z .name in
       let ps : (d : Details) → PayerSide d 0 0 0 0 0 (purseAt b (d .payer .0)) (purseAt c (d .payer .0)) =
-      λ (d : Details).
-      put-cases b p q′ hp (d .payer .0) (PayerSide d 0 0 0 0 0)
-      (λ e. record { epr = omega arith; epa = omega (arith, at-no q 3 d (λ (y : q .status ≡ 3). omega arith)); log = omega (arith, logs d, crossed p d D e mine apart) })
-      (λ e r. record { epr = omega arith; epa = refl; log = omega arith })
+      payer-still p q′ hp (λ y. omega arith) (λ y. omega arith) (λ y. omega arith) (λ d e. omega (arith, logs d, crossed p d D e mine apart))
       in
       let es : (d : Details) → PayeeSide d (bit (sameDetails d D)) 0 (bit (sameDetails d D)) (purseAt b (d .payee .0)) (purseAt c (d .payee .0)) =
       λ (d : Details).
@@ -473,10 +462,7 @@ module _ (opening : ℕ → ℕ) (b : Bench) (t : Table b) (P A : List Details) 
       (λ e r. record { epr = omega arith; epa = omega (arith, other-payer p d D mine e); log = omega (arith, other-payer p d D mine e) })
       in
       let es : (d : Details) → PayeeSide d 0 0 0 (purseAt b (d .payee .0)) (purseAt c (d .payee .0)) =
-      λ (d : Details).
-      put-cases b p q′ hp (d .payee .0) (PayeeSide d 0 0 0)
-      (λ e. record { epv = omega (arith, at-no q 2 d (λ (y : q .status ≡ 2). omega arith)); log = omega (arith, logs d, crossed′ p d D e mine apart) })
-      (λ e r. record { epv = refl; log = omega arith })
+      payee-still p q′ hp (λ y. omega arith) (λ y. omega arith) (λ d e. omega (arith, logs d, crossed′ p d D e mine apart))
       in
       quiet p q′ hp (omega arith) refl
       (λ (d : Details). omega (arith, ps d, es d, h .counts d))

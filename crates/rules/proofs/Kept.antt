@@ -16,7 +16,7 @@ use Rattle.purse.specs.declared.Amount.{Amount}
 use Rattle.purse.specs.declared.Details.{Details}
 use Rattle.purse.specs.declared.Message.{Message}
 use Rattle.purse.specs.declared.Purse.{Purse}
-use Rattle.purse.specs.Details.{zeroDetails, sameDetails, entryOk}
+use Rattle.purse.specs.Details.{request, value, acknowledge, zeroDetails, sameDetails, entryOk}
 use Rattle.purse.specs.Step.{idleWith, stopped, taken}
 use Rattle.purse.specs.Purse.{zeroPurse}
 use Rattle.purse.proofs.Bools.{which, refute, and-i}
@@ -43,6 +43,19 @@ running-busy q d s = rw (ne-eqb (q .status) 0 s) (omega arith)
 -- a purse is at its own status and details
 pub at-own : (q : Purse) (k : ℕ) → q .status ≡ k → isAt k q (q .details) ≡ true
 at-own q k s = and-i (eq-eqb _ _ s) (details-same (q .details))
+
+-- the message that answers one of the same payment, once the payer has used its number
+answer-ok : {b : Bench} {j : ℕ} {d : Details} (k : ℕ) → 1 ≤ k → k ≤ 3 → MessageOk b (messageOf j d) → (1 ≤ d .payerseq .0) × (d .payerseq .0 < purseAt b (d .payer .0) .next .0) → MessageOk b (messageOf k d)
+answer-ok k low high m used =
+    record {
+      low = low;
+      high = high;
+      name = m .name;
+      table = m .table;
+      payee-low = m .payee-low;
+      payee-high = m .payee-high;
+      payer = inr used;
+    }
 
 module _ (b : Bench) (t : Table b) where
   -- what stands among a purse's own details is one of its entries
@@ -149,7 +162,7 @@ module _ (b : Bench) (t : Table b) where
         epv = λ m h e k. refl;
       })
 
-  put-paid : (p : ℕ) → Taking b p 1 → Good p (payerAfter b p) → Table (withPurse b p (payerAfter b p))
+  put-paid : (p : ℕ) → Taking b p request → Good p (payerAfter b p) → Table (withPurse b p (payerAfter b p))
   put-paid p g w =
       let busy : (purseAt b p .status ≡ 0 → ⊥) = λ (z : purseAt b p .status ≡ 0). omega (arith, g .status) in
       put-purse b p (payerAfter b p) t
@@ -201,13 +214,13 @@ module _ (b : Bench) (t : Table b) where
   here-after : (p : ℕ) (q : Purse) → p < length (b .purses) → purseAt (withPurse b p q) p ≡ q
   here-after p q hp = getD-set-same (b .purses) p q zeroPurse hp
 
-  keep-to : (p : ℕ) (o : Name) (s : Seq) (a : Amount) → Started b p (o .0) → Good p (begunTo b p o s a) → (ms : List Message) → Sent b (messageOf 1 (toOf b p o s a)) ms → Table (withMessages (withPurse b p (begunTo b p o s a)) ms)
+  keep-to : (p : ℕ) (o : Name) (s : Seq) (a : Amount) → Started b p (o .0) → Good p (begunTo b p o s a) → (ms : List Message) → Sent b (messageOf request (toOf b p o s a)) ms → Table (withMessages (withPurse b p (begunTo b p o s a)) ms)
   keep-to p o s a st w ms x =
       let D : Details = toOf b p o s a in
       let c : Bench = withPurse b p (begunTo b p o s a) in
       let tc : Table c = put-to p o s a st w in
       let bd : Bounds (purseAt b p) = wf-bounds (called p) (purseAt b p) (t .well p (st .here)) in
-      sent c (messageOf 1 D) ms refl tc x
+      sent c (messageOf request D) ms refl tc x
       (record {
         low = omega arith;
         high = omega arith;
@@ -217,10 +230,10 @@ module _ (b : Bench) (t : Table b) where
         payee-high = rw (here-after p (begunTo b p o s a) (st .here)) (omega arith);
         payer = inl refl;
       })
-      (none _ (λ (l : 1 ≤ countM (messageOf 1 D) (b .messages)). let k : MessageOk b (messageOf 1 D) = t .message (messageOf 1 D) l in omega (arith, k .payee-high)))
+      (none _ (λ (l : 1 ≤ countM (messageOf request D) (b .messages)). let k : MessageOk b (messageOf request D) = t .message (messageOf request D) l in omega (arith, k .payee-high)))
       (record { epr = λ (k : 2 ≤ 1). absurd (omega arith); epv = λ (k : 1 ≡ 3). absurd (omega arith) })
 
-  keep-pay : (p : ℕ) → Taking b p 1 → Good p (payerAfter b p) → (ms : List Message) → Sent b (messageOf 2 (purseAt b p .details)) ms → Table (withMessages (withPurse b p (payerAfter b p)) ms)
+  keep-pay : (p : ℕ) → Taking b p request → Good p (payerAfter b p) → (ms : List Message) → Sent b (messageOf value (purseAt b p .details)) ms → Table (withMessages (withPurse b p (payerAfter b p)) ms)
   keep-pay p g w ms x =
       let q : Purse = purseAt b p in
       let D : Details = purseAt b p .details in
@@ -228,43 +241,27 @@ module _ (b : Bench) (t : Table b) where
       let tc : Table c = put-paid p g w in
       let busy : (q .status ≡ 0 → ⊥) = λ (z : q .status ≡ 0). omega (arith, g .status) in
       let role : OwnPayer (called p) q = payer-role (called p) q (t .well p (g .here)) busy (λ (z : q .status ≡ 2). omega (arith, g .status)) in
-      let k : MessageOk b (messageOf 1 D) = t .message (messageOf 1 D) (g .stands) in
+      let k : MessageOk b (messageOf request D) = t .message (messageOf request D) (g .stands) in
       let j : purseAt b (D .payer .0) .next .0 ≡ q .next .0 = ap (λ (n : ℕ). purseAt b n .next .0) (role .name) in
-      sent c (messageOf 2 D) ms refl tc x
+      sent c (messageOf value D) ms refl tc x
       (message-later (grown-put b p (payerAfter b p) (g .here) (omega arith))
-      (record {
-        low = omega arith;
-        high = omega arith;
-        name = k .name;
-        table = k .table;
-        payee-low = k .payee-low;
-        payee-high = k .payee-high;
-        payer = inr (role .low, omega (arith, role .high));
-      }))
-      (none _ (λ (l : 1 ≤ countM (messageOf 2 D) (b .messages)). never (isAt 1 q D) (at-own q 1 (g .status)) (rw (role .name) at (t .clear (messageOf 2 D) l .epr (omega arith)))))
+      (answer-ok value (omega arith) (omega arith) k (role .low, omega (arith, role .high))))
+      (none _ (λ (l : 1 ≤ countM (messageOf value D) (b .messages)). never (isAt 1 q D) (at-own q 1 (g .status)) (rw (role .name) at (t .clear (messageOf value D) l .epr (omega arith)))))
       (record { epr = λ (y : 2 ≤ 2). rw (role .name, here-after p (payerAfter b p) (g .here)); epv = λ (y : 2 ≡ 3). absurd (omega arith) })
 
-  keep-get : (p : ℕ) → Taking b p 2 → Good p (payeeAfter b p) → (ms : List Message) → Sent b (messageOf 3 (purseAt b p .details)) ms → Table (withMessages (withPurse b p (payeeAfter b p)) ms)
+  keep-get : (p : ℕ) → Taking b p value → Good p (payeeAfter b p) → (ms : List Message) → Sent b (messageOf acknowledge (purseAt b p .details)) ms → Table (withMessages (withPurse b p (payeeAfter b p)) ms)
   keep-get p g w ms x =
       let q : Purse = purseAt b p in
       let D : Details = purseAt b p .details in
       let c : Bench = withPurse b p (payeeAfter b p) in
       let tc : Table c = put-idle p (q .balance .0 + D .amount .0) (g .here) w in
       let role : OwnPayee (called p) q = payee-role (called p) q (t .well p (g .here)) (g .status) in
-      let k : MessageOk b (messageOf 2 D) = t .message (messageOf 2 D) (g .stands) in
-      sent c (messageOf 3 D) ms refl tc x
+      let k : MessageOk b (messageOf value D) = t .message (messageOf value D) (g .stands) in
+      sent c (messageOf acknowledge D) ms refl tc x
       (message-later (grown-put b p (payeeAfter b p) (g .here) (omega arith))
-      (record {
-        low = omega arith;
-        high = omega arith;
-        name = k .name;
-        table = k .table;
-        payee-low = k .payee-low;
-        payee-high = k .payee-high;
-        payer = ⊎-elim (λ (y : 2 ≡ 1). absurd (omega arith)) (λ (y : (1 ≤ D .payerseq .0) × (D .payerseq .0 < purseAt b (D .payer .0) .next .0)). inr y) (k .payer);
-      }))
-      (none _ (λ (l : 1 ≤ countM (messageOf 3 D) (b .messages)). never (isAt 2 q D) (at-own q 2 (g .status)) (rw (role .name) at (t .clear (messageOf 3 D) l .epv refl))))
-      (record { epr = λ (y : 2 ≤ 3). tc .clear (messageOf 2 D) (g .stands) .epr (omega arith); epv = λ (y : 3 ≡ 3). rw (role .name, here-after p (payeeAfter b p) (g .here)) })
+      (answer-ok acknowledge (omega arith) (omega arith) k (⊎-elim (λ (y : 2 ≡ 1). absurd (omega arith)) (λ y. y) (k .payer))))
+      (none _ (λ (l : 1 ≤ countM (messageOf acknowledge D) (b .messages)). never (isAt 2 q D) (at-own q 2 (g .status)) (rw (role .name) at (t .clear (messageOf acknowledge D) l .epv refl))))
+      (record { epr = λ (y : 2 ≤ 3). tc .clear (messageOf value D) (g .stands) .epr (omega arith); epv = λ (y : 3 ≡ 3). rw (role .name, here-after p (payeeAfter b p) (g .here)) })
 
   keep-collect : (p : ℕ) → p < length (b .purses) → 0 < purseAt b p .logged → Good p (taken (purseAt b p)) → length (b .archive) < 256 → Table (withArchive (withPurse b p (taken (purseAt b p))) (b .archive ++ (record { by = called p; details = getD (purseAt b p .log) 0 zeroDetails } ∷ [])))
   keep-collect p hp l w room =

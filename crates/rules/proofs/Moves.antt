@@ -1,4 +1,5 @@
--- Every event is one of ten moves (an abort of an idle purse, like a refusal, stays). What holds of each move holds of every step: the case analysis of the bench's step, made once.
+-- Every event is one of ten moves (a refusal stays, and so does an abort of an idle purse). What holds of each move holds of every step: the
+-- case analysis of the bench's step, made once.
 -- Assumes nothing.
 use Prim.Native.Nat.{ℕ, _≤_, _<_}
 use mathlib.Core.Path.{_≡_, refl, sym}
@@ -9,7 +10,7 @@ use lib.ListN.{length, getD}
 use lib.Seq.{set-getD}
 use lib.Dec.{ltb, leb, eqb}
 use native.Mathlib.Omega.{arith}
-use borrow.Author.Tests.{leb-true, leb-false, ltb-true, eqb-true, eqb-false, ne-eqb, lt-leb, le-leb}
+use borrow.Author.Tests.{leb-false, ltb-true, eqb-true, eqb-false, ne-eqb, lt-leb, le-leb}
 use Rattle.purse.specs.declared.Name.{Name}
 use Rattle.purse.specs.declared.Seq.{Seq}
 use Rattle.purse.specs.declared.Amount.{Amount}
@@ -17,7 +18,7 @@ use Rattle.purse.specs.declared.Details.{Details}
 use Rattle.purse.specs.declared.Message.{Message}
 use Rattle.purse.specs.declared.Purse.{Purse}
 use Rattle.purse.specs.declared.CardAnswer.{CardAnswer}
-use Rattle.purse.specs.Details.{zeroDetails, zeroMessage, sameDetails, sameMessage}
+use Rattle.purse.specs.Details.{request, value, acknowledge, zeroDetails, zeroMessage, sameDetails, sameMessage}
 use Rattle.purse.specs.Tests.{_⇒_}
 use Rattle.purse.specs.Purse.{epr, epv, zeroPurse, wellFormed}
 use Rattle.purse.specs.Step as card
@@ -86,10 +87,10 @@ Good p q = wellFormed (called p) q ≡ true
 pub record Moves (b : Bench) (Q : Bench → List Details → List Details → Type 0) : Type 0 where
   pub stays : Q b [] []
   pub from : (p : ℕ) (o : Name) (s : Seq) (a : Amount) → Started b p (o .0) → Good p (begunFrom b p o s a) → Q (withPurse b p (begunFrom b p o s a)) [] []
-  pub to : (p : ℕ) (o : Name) (s : Seq) (a : Amount) → Started b p (o .0) → Good p (begunTo b p o s a) → (ms : List Message) → Sent b (messageOf 1 (toOf b p o s a)) ms → Q (withMessages (withPurse b p (begunTo b p o s a)) ms) [] []
-  pub pay : (p : ℕ) → Taking b p 1 → Good p (payerAfter b p) → (ms : List Message) → Sent b (messageOf 2 (purseAt b p .details)) ms → Q (withMessages (withPurse b p (payerAfter b p)) ms) (purseAt b p .details ∷ []) []
-  pub get : (p : ℕ) → Taking b p 2 → Good p (payeeAfter b p) → (ms : List Message) → Sent b (messageOf 3 (purseAt b p .details)) ms → Q (withMessages (withPurse b p (payeeAfter b p)) ms) [] (purseAt b p .details ∷ [])
-  pub settle : (p : ℕ) → Taking b p 3 → Good p (idleAfter b p) → Q (withPurse b p (idleAfter b p)) [] []
+  pub to : (p : ℕ) (o : Name) (s : Seq) (a : Amount) → Started b p (o .0) → Good p (begunTo b p o s a) → (ms : List Message) → Sent b (messageOf request (toOf b p o s a)) ms → Q (withMessages (withPurse b p (begunTo b p o s a)) ms) [] []
+  pub pay : (p : ℕ) → Taking b p request → Good p (payerAfter b p) → (ms : List Message) → Sent b (messageOf value (purseAt b p .details)) ms → Q (withMessages (withPurse b p (payerAfter b p)) ms) (purseAt b p .details ∷ []) []
+  pub get : (p : ℕ) → Taking b p value → Good p (payeeAfter b p) → (ms : List Message) → Sent b (messageOf acknowledge (purseAt b p .details)) ms → Q (withMessages (withPurse b p (payeeAfter b p)) ms) [] (purseAt b p .details ∷ [])
+  pub settle : (p : ℕ) → Taking b p acknowledge → Good p (idleAfter b p) → Q (withPurse b p (idleAfter b p)) [] []
   pub quit : (p : ℕ) → p < length (b .purses) → purseAt b p .status ≡ 1 → Good p (idleAfter b p) → Q (withPurse b p (idleAfter b p)) [] []
   pub stop : (p : ℕ) → p < length (b .purses) → 2 ≤ purseAt b p .status → Good p (stopped (purseAt b p)) → Q (withPurse b p (stopped (purseAt b p))) [] []
   pub drop : (i : ℕ) → i < length (b .messages) → Q (withMessages b (without i (b .messages))) [] []
@@ -153,7 +154,7 @@ module _ (b : Bench) (t : Table b) (Q : Bench → List Details → List Details 
   to-moves p o s a hp ho =
       by-card b Quiet p (toNumber (purseAt b p) (called p) o a) _
       (λ z.
-      by-room b Quiet p (begunTo b p o s a) (messageOf 1 (toOf b p o s a)) (λ ms n l w.
+      by-room b Quiet p (begunTo b p o s a) (messageOf request (toOf b p o s a)) (λ ms n l w.
       quiet (record { answer = n; bench = withMessages (withPurse b p (begunTo b p o s a)) ms })
       (v .to p o s a (record { here = hp; other = ho; idle = ready-to (purseAt b p) (called p) o a z .idle }) (keep-to (purseAt b p) (called p) o s a z) ms w)))
       (λ z. stayed (toNumber (purseAt b p) (called p) o a))
@@ -176,24 +177,24 @@ module _ (b : Bench) (t : Table b) (Q : Bench → List Details → List Details 
       ⊎-elim
       (λ (e : eqb (m .kind) 1 ≡ true).
       let k : m .kind ≡ 1 = eqb-true _ _ e in
-      let g : Taking b p 1 × (purseAt b p .details ≡ m .details) = taken-message p m hp hm z 1 k in
+      let g : Taking b p request × (purseAt b p .details ≡ m .details) = taken-message p m hp hm z 1 k in
       rw (e, ne-eqb (m .kind) 2 (λ (y : m .kind ≡ 2). omega arith))
-      (by-room b (λ (a : Answer). Q (a .bench) (cond (leb (a .answer) 1) (m .details ∷ []) []) (cond (leb (a .answer) 1) [] [])) p (payerAfter b p) (messageOf 2 (purseAt b p .details)) (λ ms n l s.
+      (by-room b (λ (a : Answer). Q (a .bench) (cond (leb (a .answer) 1) (m .details ∷ []) []) (cond (leb (a .answer) 1) [] [])) p (payerAfter b p) (messageOf value (purseAt b p .details)) (λ ms n l s.
       rw (le-leb n 1 l, ← (g .1)) (v .pay p (g .0) (keep-paid (purseAt b p) (called p) (g .0 .status) w) ms s))))
       (λ (e : eqb (m .kind) 1 ≡ false).
       ⊎-elim
       (λ (f : eqb (m .kind) 2 ≡ true).
       let k : m .kind ≡ 2 = eqb-true _ _ f in
-      let g : Taking b p 2 × (purseAt b p .details ≡ m .details) = taken-message p m hp hm z 2 k in
+      let g : Taking b p value × (purseAt b p .details ≡ m .details) = taken-message p m hp hm z 2 k in
       rw (e, f)
-      (by-room b (λ (a : Answer). Q (a .bench) (cond (leb (a .answer) 1) [] []) (cond (leb (a .answer) 1) (m .details ∷ []) [])) p (payeeAfter b p) (messageOf 3 (purseAt b p .details)) (λ ms n l s.
+      (by-room b (λ (a : Answer). Q (a .bench) (cond (leb (a .answer) 1) [] []) (cond (leb (a .answer) 1) (m .details ∷ []) [])) p (payeeAfter b p) (messageOf acknowledge (purseAt b p .details)) (λ ms n l s.
       rw (le-leb n 1 l, ← (g .1)) (v .get p (g .0) (keep-idle (purseAt b p) (called p) (received (purseAt b p) .purse .balance) (deliver-get (purseAt b p) (called p) m z k) w) ms s))))
       (λ (f : eqb (m .kind) 2 ≡ false).
       let o : MessageOk b m = t .message m hm in
       let n1 : (m .kind ≡ 1 → ⊥) = eqb-false _ _ e in
       let n2 : (m .kind ≡ 2 → ⊥) = eqb-false _ _ f in
       let k : m .kind ≡ 3 = omega (arith, o .low, o .high) in
-      let g : Taking b p 3 × (purseAt b p .details ≡ m .details) = taken-message p m hp hm z 3 k in
+      let g : Taking b p acknowledge × (purseAt b p .details ≡ m .details) = taken-message p m hp hm z 3 k in
       rw (e, f) (v .settle p (g .0) (keep-idle (purseAt b p) (called p) (purseAt b p .balance) (wf-bounds (called p) (purseAt b p) w .balance) w)))
       (which (eqb (m .kind) 2)))
       (which (eqb (m .kind) 1)))

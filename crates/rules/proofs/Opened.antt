@@ -11,8 +11,9 @@ use borrow.Author.Tests.{leb-true, le-leb, not-false}
 use Rattle.purse.specs.declared.Name.{Name}
 use Rattle.purse.specs.declared.Details.{Details}
 use Rattle.purse.specs.Details.{sameDetails}
-use Rattle.purse.specs.Purse.{idleOk, placeOk, logOk, wellFormed}
+use Rattle.purse.specs.Purse.{ceiling, idleOk, placeOk, logOk, wellFormed}
 use Rattle.purse.specs.Lists.{all}
+use Rattle.purse.proofs.Count.{all-at}
 use Rattle.purse.proofs.Bools.{and-l, and-r}
 use Rattle.purse.proofs.Tests.{passed}
 use Rattle.rules.specs.Bench.{called, purseAt, running, kept}
@@ -27,33 +28,28 @@ use Rattle.rules.proofs.Kept.{keep-run}
 pub record Opens (bs : List ℕ) : Type 0 where
   pub some : 1 ≤ length bs
   pub few : length bs ≤ 32
-  pub low : all (λ (b : ℕ). leb b 5000000) bs ≡ true
+  pub low : all (λ (b : ℕ). leb b (ceiling (openedAt b))) bs ≡ true
 
 pub opens : (bs : List ℕ) → openingNumber bs ≡ 0 → Opens bs
 unfolding openingNumber
 opens bs e =
-    let r : ℕ = cond (not (all (λ (b : ℕ). leb b 5000000) bs)) 21 0 in
+    let r : ℕ = cond (not (all (λ (b : ℕ). leb b (ceiling (openedAt b))) bs)) 21 0 in
     let n : (leb 1 (length bs) && leb (length bs) 32) ≡ true = not-false _ (passed (not (leb 1 (length bs) && leb (length bs) 32)) 20 r (omega arith) e .0) in
     let f : r ≡ 0 = passed (not (leb 1 (length bs) && leb (length bs) 32)) 20 r (omega arith) e .1 in
     record {
       some = leb-true _ _ (and-l (leb 1 (length bs)) (leb (length bs) 32) n);
       few = leb-true _ _ (and-r (leb 1 (length bs)) (leb (length bs) 32) n);
-      low = not-false _ (passed (not (all (λ (b : ℕ). leb b 5000000) bs)) 21 0 (omega arith) f .0);
+      low = not-false _ (passed (not (all (λ (b : ℕ). leb b (ceiling (openedAt b))) bs)) 21 0 (omega arith) f .0);
     }
-
-low-at : (bs : List ℕ) (p : ℕ) → all (λ (b : ℕ). leb b 5000000) bs ≡ true → p < length bs → getD bs p 0 ≤ 5000000
-low-at [] p h l = absurd (omega arith)
-low-at (x ∷ bs) zero h l = leb-true _ _ (and-l (leb x 5000000) (all (λ (b : ℕ). leb b 5000000) bs) h)
-low-at (x ∷ bs) (suc p) h l = low-at bs p (and-r (leb x 5000000) (all (λ (b : ℕ). leb b 5000000) bs) h) (omega arith)
 
 pub opened-at : (bs : List ℕ) (p : ℕ) → p < length bs → purseAt (opened bs) p ≡ openedAt (getD bs p 0)
 opened-at [] p l = absurd (omega arith)
 opened-at (x ∷ bs) zero l = refl
 opened-at (x ∷ bs) (suc p) l = opened-at bs p (omega arith)
 
-pub well-opened : (own : Name) (v : ℕ) → v ≤ 5000000 → wellFormed own (openedAt v) ≡ true
+pub well-opened : (own : Name) (v : ℕ) → v ≤ ceiling (openedAt v) → wellFormed own (openedAt v) ≡ true
 unfolding wellFormed idleOk logOk placeOk sameDetails
-well-opened own v h = rw (le-leb v 5000000 h)
+well-opened own v h = rw (le-leb v (ceiling (openedAt v)) h)
 
 pub opened-table : (bs : List ℕ) → openingNumber bs ≡ 0 → Table (opened bs)
 opened-table bs e =
@@ -64,7 +60,7 @@ opened-table bs e =
       few = omega (arith, o .few);
       few-messages = omega arith;
       few-entries = omega arith;
-      well = λ (p : ℕ) (l : p < length (map openedAt bs)). rw (opened-at bs p (omega arith)) (well-opened (called p) (getD bs p 0) (low-at bs p (o .low) (omega arith)));
+      well = λ (p : ℕ) (l : p < length (map openedAt bs)). rw (opened-at bs p (omega arith)) (well-opened (called p) (getD bs p 0) (leb-true _ _ (all-at (λ (b : ℕ). leb b (ceiling (openedAt b))) 0 bs p (o .low) (omega arith))));
       names =
           λ (p : ℕ) (l : p < length (map openedAt bs)) (d : Details) (h : 1 ≤ countD d (running (purseAt (opened bs) p)) + countD d (kept (purseAt (opened bs) p))).
           let z : 1 ≤ 0 + 0 = rw (opened-at bs p (omega arith)) at h in absurd (omega arith);

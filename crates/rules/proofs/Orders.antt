@@ -1,92 +1,36 @@
--- "Only the first that applies, in this order": for each kind of event, document 01's list of tests, as one list about the bench, and that
--- the step's answer is the first of it. Two numbers of the card fall away at a table that is well formed: a record that breaks a rule (2)
--- and a name above 31 (4, 6). What is done answers 0, or 1 where a message is sent and 256 stand: the last test of a list, so that 0
--- means that none applies.
+-- The step's answer is the first that applies of document 01's list for the event's kind. At a table that is well formed two tests of the
+-- card fall away: a record that breaks a rule (2), and a name above 31 (4, 6).
 -- Assumes nothing.
-use Prim.Native.Nat.{ℕ, _+_, _≤_, _<_}
-use mathlib.Core.Path.{_≡_, refl, _∙_, sym, ap}
-use mathlib.Core.Bool.{Bool, true, false, _&&_, _||_, not, cond}
+use Prim.Native.Nat.{ℕ, _<_}
+use mathlib.Core.Path.{_≡_, refl, _∙_, sym}
+use mathlib.Core.Bool.{true, false, _&&_, not, cond}
 use mathlib.Core.Logic.{⊎-elim}
 use mathlib.Core.List.{List, [], _∷_, _++_}
 use lib.ListN.{length}
 use lib.Dec.{ltb, leb, eqb}
 use native.Mathlib.Omega.{arith}
-use borrow.Author.Tests.{leb-true, leb-false, ltb-true, ltb-false, eqb-true, eqb-false, eq-eqb, ne-eqb, le-ltb, lt-ltb, le-leb, lt-leb, not-true}
+use borrow.Author.Tests.{leb-true, leb-false, eqb-true, eqb-false, eq-eqb, ne-eqb, le-ltb, lt-ltb, lt-leb}
 use Rattle.purse.specs.declared.Name.{Name}
 use Rattle.purse.specs.declared.Seq.{Seq}
 use Rattle.purse.specs.declared.Amount.{Amount}
 use Rattle.purse.specs.declared.Message.{Message}
-use Rattle.purse.specs.declared.Purse.{Purse}
-use Rattle.purse.specs.declared.CardAnswer.{CardAnswer}
 use Rattle.purse.specs.Lists.{all}
 use Rattle.purse.specs.Tests.{Test, _⇒_, first}
-use Rattle.purse.specs.Details.{acknowledge, zeroMessage, sameMessage, legal}
-use Rattle.purse.specs.Purse.{idle, lastSeq, logPlaces, ceiling, wellFormed}
+use Rattle.purse.specs.Details.{acknowledge, zeroMessage, sameMessage}
 use Rattle.purse.specs.Step as card
-use Rattle.purse.specs.Step.{fromNumber, toNumber, deliverNumber, abortNumber, collectNumber, expected, delivered, deliverTo, abortBy, collectBy}
+use Rattle.purse.specs.Step.{fromNumber, toNumber, deliverNumber, abortNumber, collectNumber, delivered, deliverTo, abortBy, collectBy}
 use Rattle.purse.proofs.Bools.{which}
 use Rattle.purse.proofs.Count.{times-at}
 use Rattle.rules.specs.declared.Event.{Event}
 use Rattle.rules.specs.declared.Event.the-variants.{Malformed, StartFrom, StartTo, Deliver, Abort, Lose, Collect}
-use Rattle.rules.specs.Bench.{Bench, called, purseAt, messageAt}
+use Rattle.rules.specs.Bench.{Bench, purseAt, messageAt}
 use Rattle.rules.specs.Table.{tableOk}
 use Rattle.rules.specs.Events.{decoded}
 use Rattle.rules.specs.Steps.{Answer, carried, archiving, acting, step, noPurse, noMessage}
+use Rattle.rules.specs.Orders.{full, fromTests, toTests, deliverTests, testsOf, order}
 use Rattle.rules.proofs.Ladders.{first-append, first-not}
 use Rattle.rules.proofs.Facts.{message-equal, message-same, MessageOk, Table, is-table}
 use Rattle.rules.proofs.Moves.{by-card, by-test}
-
--- 256 messages stand: one that is sent is lost
-abbrev full : Bench → Bool
-full b = leb 256 (length (b .messages))
-
--- "Starts: [2, 3,] 4, 6, 7, 8, 9, 10, then 11 or 12"
-abbrev starts : Bench → Name → Name → Amount → Test → List Test
-starts b p o a last =
-    (noPurse b (p .0) ⇒ 4)
-    ∷ (noPurse b (o .0) || eqb (o .0) (p .0) ⇒ 6)
-    ∷ (not (legal a) ⇒ 7)
-    ∷ (not (eqb (purseAt b (p .0) .status) idle) ⇒ 8)
-    ∷ (eqb (purseAt b (p .0) .next .0) lastSeq ⇒ 9)
-    ∷ (leb logPlaces (purseAt b (p .0) .logged) ⇒ 10)
-    ∷ last
-    ∷ []
-
-abbrev fromTests : Bench → Name → Name → Amount → List Test
-fromTests b p o a = starts b p o a (ltb (purseAt b (p .0) .balance .0) (a .0) ⇒ 11)
-
-abbrev toTests : Bench → Name → Name → Amount → List Test
-toTests b p o a = starts b p o a (ltb (ceiling (purseAt b (p .0))) (purseAt b (p .0) .balance .0 + a .0) ⇒ 12)
-
--- "Deliver: [2, 3,] 4, 5, 13"
-abbrev deliverTests : Bench → Name → ℕ → List Test
-deliverTests b p i =
-    (noPurse b (p .0) ⇒ 4)
-    ∷ (noMessage b i ⇒ 5)
-    ∷ (not (expected (purseAt b (p .0)) (messageAt b i)) ⇒ 13)
-    ∷ []
-
--- "Collect: [2, 3,] 4, 14, 15"
-abbrev collectTests : Bench → Name → List Test
-collectTests b p =
-    (noPurse b (p .0) ⇒ 4)
-    ∷ (eqb (purseAt b (p .0) .logged) 0 ⇒ 14)
-    ∷ (leb 256 (length (b .archive)) ⇒ 15)
-    ∷ []
-
--- what each kind tests after 2; a request and a value that are taken send a message, an acknowledge none
-abbrev pub testsOf : Bench → Event → List Test
-testsOf b Malformed = (true ⇒ 3) ∷ []
-testsOf b (StartFrom p o s a) = fromTests b p o a
-testsOf b (StartTo p o s a) = toTests b p o a ++ ((full b ⇒ 1) ∷ [])
-testsOf b (Deliver p i) = deliverTests b p i ++ ((not (eqb (messageAt b i .kind) acknowledge) && full b ⇒ 1) ∷ [])
-testsOf b (Abort p) = (noPurse b (p .0) ⇒ 4) ∷ []
-testsOf b (Lose i) = (noMessage b i ⇒ 5) ∷ []
-testsOf b (Collect p) = collectTests b p
-
--- 2 before every other test
-abbrev pub order : Bench → List ℕ → List Test
-order b l = (not (tableOk b) ⇒ 2) ∷ testsOf b (decoded l)
 
 -- the answer where a message is sent
 room : (b : Bench) (A B : Answer) → A .answer ≡ 0 → B .answer ≡ 1 → cond (ltb (length (b .messages)) 256) A B .answer ≡ cond (full b) 1 0
@@ -181,7 +125,8 @@ module _ (b : Bench) (t : Table b) where
       (which (leb 256 (length (b .archive))))))
       (which (eqb (purseAt b (p .0) .logged) 0)))
 
-  event-order : (e : Event) → acting b e .answer ≡ first (testsOf b e)
+  -- a well-formed bench, by the kind of event
+  pub event-order : (e : Event) → acting b e .answer ≡ first (testsOf b e)
   unfolding acting
   event-order Malformed = refl
   event-order (StartFrom p o s a) =

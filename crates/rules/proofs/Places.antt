@@ -1,12 +1,12 @@
 -- The lists and their places: a bench laid out is read back, a well-formed table and desk are their lists laid out, and the step on places is
 -- the step on lists. For the bench's code, and for carrying a theorem on lists to the table and desk.
 -- Assumes nothing.
-use Prim.Native.Nat.{ℕ, zero, suc, _+_, _-_, _≤_, _<_}
+use Prim.Native.Nat.{ℕ, _-_, _≤_}
 use mathlib.Core.Path.{_≡_, refl, _∙_, sym, ap}
 use mathlib.Core.Bool.{Bool, true, _&&_}
-use mathlib.Core.List.{List, [], _∷_, _++_, append-assoc}
-use lib.ListN.{length, getD, take, drop, set, replicate, length-append, length-drop, length-replicate, length-set, take-append-drop, List·getD-append}
-use lib.Seq.{take-at, drop-at, set-append-left, take-append-le, drop-append-le, length-take-le}
+use mathlib.Core.List.{List, _++_}
+use lib.ListN.{length, take, drop, replicate, length-drop, take-append-drop}
+use lib.Seq.{length-take-le}
 use lib.Dec.{leb, eqb}
 use native.Mathlib.Omega.{arith}
 use borrow.Author.Tests.{eqb-true, eq-eqb, leb-true, le-leb}
@@ -14,11 +14,10 @@ use Rattle.purse.specs.declared.Details.{Details}
 use Rattle.purse.specs.declared.Message.{Message}
 use Rattle.purse.specs.declared.Purse.{Purse}
 use Rattle.purse.specs.Details.{zeroDetails, zeroMessage, sameDetails, sameMessage}
-use Rattle.purse.specs.Lists.{all, without, padded}
+use Rattle.purse.specs.Lists.{all, padded}
 use Rattle.purse.specs.Purse.{zeroPurse}
 use Rattle.purse.proofs.Padded.{all-replicate, replicate-all, taken-back, rest-back, length-padded}
 use Rattle.purse.proofs.Bools.{and-l, and-r, and-i}
-use Rattle.purse.proofs.Payments.{Same, is-same}
 use Rattle.desk.specs.declared.Entry.{Entry}
 use Rattle.desk.specs.declared.Held.{Held}
 use Rattle.desk.specs.Desk.{zeroEntry, sameEntry}

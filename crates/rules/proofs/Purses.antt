@@ -1,31 +1,28 @@
 -- What a well-formed purse promises, by counts: its role, its entries, and its log after an abort or a collect.
 -- Assumes nothing.
-use Prim.Native.Nat.{ℕ, zero, suc, _+_, _-_, _≤_, _<_}
-use mathlib.Core.Path.{_≡_, refl, _∙_, sym, ap}
-use mathlib.Core.Bool.{Bool, true, false, _&&_, _||_, not}
+use Prim.Native.Nat.{ℕ, suc, _+_, _-_, _≤_, _<_}
+use mathlib.Core.Path.{_≡_, _∙_, sym, ap}
+use mathlib.Core.Bool.{true, _&&_, _||_}
 use mathlib.Core.Logic.{_⊎_, inl, inr, ⊎-elim}
 use mathlib.Core.List.{List, [], _∷_, _++_}
 use lib.ListN.{length, getD, take, drop, set, length-drop}
 use lib.Seq.{take-suc-set, drop-cons, take-append-le}
-use lib.Dec.{ltb, leb, eqb}
+use lib.Dec.{leb, eqb}
 use native.Mathlib.Numerals.{add-one}
 use native.Mathlib.Omega.{arith}
-use borrow.Author.Tests.{eqb-true, eqb-false, ne-eqb, not-false}
+use borrow.Author.Tests.{eqb-true, ne-eqb}
 use Rattle.purse.specs.declared.Name.{Name}
-use Rattle.purse.specs.declared.Amount.{Amount}
 use Rattle.purse.specs.declared.Details.{Details}
 use Rattle.purse.specs.declared.Purse.{Purse}
-use Rattle.purse.specs.Details.{zeroDetails, sameDetails, legal, named, asPayer, asPayee, entryOk}
-use Rattle.purse.specs.Purse.{paysOk, getsOk, busyOk, wellFormed}
-use Rattle.purse.specs.Step.{startNumber, stopped, taken}
-use Rattle.purse.specs.Lists.{all}
-use Rattle.purse.proofs.Bools.{and-l, and-r, no-and, or-l, or-r, either, and-i, which}
-use Rattle.purse.proofs.Tests.{passed}
-use Rattle.purse.proofs.Rules.{busy, busy-parts, room, wf-log, wf-bounds, busy-entry, Bounds}
+use Rattle.purse.specs.Details.{zeroDetails, sameDetails, named, asPayer, asPayee, entryOk}
+use Rattle.purse.specs.Purse.{ceiling, paysOk, getsOk, busyOk, wellFormed}
+use Rattle.purse.specs.Step.{stopped, taken}
+use Rattle.purse.proofs.Bools.{and-l, and-r, no-and, or-l, or-r, either}
+use Rattle.purse.proofs.Rules.{busy, busy-parts, room, wf-log, wf-bounds, Bounds}
 use Rattle.purse.proofs.Payments.{as-payer, as-payee, is-named}
 use Rattle.purse.proofs.Log.{used-at, log-long}
-use Rattle.purse.proofs.Count.{bit, bit-yes, times-append, is-all}
-use Rattle.rules.specs.Bench.{running, kept}
+use Rattle.purse.proofs.Count.{bit, times-append, is-all, all-take}
+use Rattle.rules.specs.Bench.{kept}
 use Rattle.rules.proofs.Facts.{details-equal, details-same, countD}
 
 pub record OwnPayer (own : Name) (p : Purse) : Type 0 where
@@ -44,7 +41,7 @@ module _ (own : Name) (p : Purse) (w : wellFormed own p ≡ true) where
   payer-role s t =
       let a : (paysOk p && asPayer own (p .next) (p .details)) ≡ true =
       or-l (paysOk p && asPayer own (p .next) (p .details)) (getsOk p && asPayee own (p .next) (p .details)) (busy-parts own p w s)
-      (no-and (getsOk p) (asPayee own (p .next) (p .details)) (no-and (eqb (p .status) 2) (leb (p .balance .0 + p .details .amount .0) 5000000) (ne-eqb (p .status) 2 t)))
+      (no-and (getsOk p) (asPayee own (p .next) (p .details)) (no-and (eqb (p .status) 2) (leb (p .balance .0 + p .details .amount .0) (ceiling p)) (ne-eqb (p .status) 2 t)))
       in
       let e : (p .details .payer .0 ≡ own .0) × ((1 ≤ p .details .payerseq .0) × (p .details .payerseq .0 < p .next .0)) =
       as-payer own (p .next) (p .details) (and-r (paysOk p) (asPayer own (p .next) (p .details)) a)
@@ -80,33 +77,17 @@ module _ (own : Name) (p : Purse) (w : wellFormed own p ≡ true) where
       (and-l (paysOk p) (asPayer own (p .next) (p .details)) a)
       (no-and (eqb (p .status) 1) (leb (p .details .amount .0) (p .balance .0)) (ne-eqb (p .status) 1 (λ (z : p .status ≡ 1). omega arith))))))
       (λ (a : (getsOk p && asPayee own (p .next) (p .details)) ≡ true).
-      inl (eqb-true _ _ (and-l (eqb (p .status) 2) (leb (p .balance .0 + p .details .amount .0) 5000000) (and-l (getsOk p) (asPayee own (p .next) (p .details)) a))))
+      inl (eqb-true _ _ (and-l (eqb (p .status) 2) (leb (p .balance .0 + p .details .amount .0) (ceiling p)) (and-l (getsOk p) (asPayee own (p .next) (p .details)) a))))
       (either (paysOk p && asPayer own (p .next) (p .details)) (getsOk p && asPayee own (p .next) (p .details)) (busy-parts own p w (λ (z : p .status ≡ 0). omega arith)))
 
--- each of the first n of a list
-all-take : (f : Details → Bool) (z : Details) (n : ℕ) (l : List Details) → n ≤ length l → ((i : ℕ) → i < n → f (getD l i z) ≡ true) → all f (take n l) ≡ true
-all-take f z zero l h g = refl
-all-take f z (suc n) [] h g = absurd (omega arith)
-all-take f z (suc n) (x ∷ l) h g = and-i (g zero (omega arith)) (all-take f z n l (omega arith) (λ (i : ℕ) (k : i < n). g (suc i) (omega arith)))
-
 module _ (own : Name) (p : Purse) (w : wellFormed own p ≡ true) where
-  -- each entry of the log, and running details, have a number that the purse has used
+  -- each entry of the log has a number that the purse has used
   pub kept-entry : (d : Details) → 1 ≤ countD d (kept p) → entryOk own (p .next) d ≡ true
   kept-entry =
       let b : Bounds p = wf-bounds own p w in
       is-all sameDetails details-equal details-same (entryOk own (p .next)) (kept p)
       (all-take (entryOk own (p .next)) zeroDetails (p .logged) (p .log) (omega (arith, log-long own p (wf-log own p w), b .logged)) (λ (i : ℕ) (l : i < p .logged).
       used-at own p (wf-log own p w) i (omega (arith, b .logged)) l .entry))
-
-  pub running-entry : (d : Details) → 1 ≤ countD d (running p) → entryOk own (p .next) d ≡ true
-  running-entry d h =
-      ⊎-elim
-      (λ (a : eqb (p .status) 0 ≡ true). let z : 1 ≤ 0 = rw a at h in absurd (omega arith))
-      (λ (a : eqb (p .status) 0 ≡ false).
-      let z : 1 ≤ bit (sameDetails d (p .details)) + 0 = rw a at h in
-      let e : d ≡ p .details = details-equal d (p .details) (bit-yes _ (omega arith)) in
-      rw e (busy-entry own p (busy own p w (eqb-false _ _ a))))
-      (which (eqb (p .status) 0))
 
   -- the log after an abort: the running details at its end
   pub kept-stopped : (p .status ≡ 0 → ⊥) → (d : Details) → countD d (kept (stopped p)) ≡ countD d (kept p) + bit (sameDetails d (p .details))

@@ -4,7 +4,7 @@
 -- Assumes nothing.
 use Prim.Native.Nat.{ℕ, zero, suc, _+_, _≤_, _<_}
 use mathlib.Core.Path.{_≡_, refl, _∙_, sym, ap}
-use mathlib.Core.Bool.{Bool, true, false, _&&_, not, cond}
+use mathlib.Core.Bool.{Bool, true, false, _&&_, cond}
 use mathlib.Core.Logic.{inl, ⊎-elim}
 use mathlib.Core.List.{List, [], _∷_, _++_, map}
 use lib.ListN.{length, length-map}
@@ -18,11 +18,10 @@ use Rattle.purse.specs.Lists.{all, among, distinct, keep, total, sumTo}
 use Rattle.purse.proofs.Bools.{which}
 use Rattle.purse.proofs.Count.{bit, times-append, times-keep, times-among, among-times, apart-times, distinct-is, total-le, total-eq, total-append, all-is, sum-same, sum-add, sum-shares}
 use Rattle.rules.specs.Bench.{Bench, purseAt, kept, archivedBy, loggedBy, isAt, balanceAt}
-use Rattle.rules.specs.Table.{tableOk}
 use Rattle.rules.specs.Steps.{step}
 use Rattle.rules.specs.Run.{opened, openedAt, openingNumber, run, answers}
 use Rattle.rules.specs.Paid.{amountOf, paid, arrived, matchedWith, matched, abortOf, paidOut, takenIn}
-use Rattle.rules.proofs.Facts.{details-equal, details-same, countD, table-is}
+use Rattle.rules.proofs.Facts.{details-equal, details-same, countD}
 use Rattle.rules.proofs.Opened.{opened-ok}
 use Rattle.rules.proofs.History.{epr, epa, epv, payerLog, payeeLog, History, history-run}
 use Rattle.rules.proofs.Kept.{keep-run}

@@ -1,12 +1,13 @@
--- An abort of a purse of the table is never refused, leaves that purse idle and no idle purse busy. So after an abort to every purse all are idle.
+-- An abort of a purse of the table is never refused, leaves that purse idle and no idle purse busy. So after an abort to every purse all
+-- are idle.
 -- Assumes nothing.
 use Prim.Native.Nat.{ℕ, _≤_, _<_}
 use mathlib.Core.Path.{_≡_, refl, _∙_, ap}
-use mathlib.Core.Bool.{true, false, _||_, cond}
+use mathlib.Core.Bool.{true, false, _||_}
 use mathlib.Core.Logic.{_⊎_, inl, inr, ⊎-elim}
 use mathlib.Core.List.{List, [], _∷_, map}
 use lib.ListN.{length, List·getD-eq-default, length-set}
-use lib.Dec.{ltb, leb, eqb}
+use lib.Dec.{ltb, eqb}
 use native.Mathlib.Omega.{arith}
 use borrow.Author.Tests.{ltb-true, ltb-false, eqb-true, lt-leb, le-leb, le-ltb}
 use Rattle.purse.specs.declared.Details.{Details}
@@ -15,7 +16,7 @@ use Rattle.purse.specs.Step.{abortNumber, abortBy, aborted, stopped, taken}
 use Rattle.purse.specs.Lists.{all, among}
 use Rattle.purse.specs.Purse.{zeroPurse}
 use Rattle.purse.proofs.Bools.{and-l, and-r, either, which}
-use Rattle.rules.specs.Bench.{Bench, called, purseAt}
+use Rattle.rules.specs.Bench.{Bench, purseAt}
 use Rattle.rules.specs.Table.{tableOk}
 use Rattle.rules.specs.Steps.{Answer, withPurse, acting, step}
 use Rattle.rules.specs.Events.{decoded}

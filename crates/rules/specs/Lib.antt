@@ -6,3 +6,4 @@ pub mod Run
 pub mod Paid
 pub mod Laid
 pub mod HeldPaid
+pub mod Orders
