@@ -3,14 +3,15 @@ use super::answers::idle;
 use super::answers::quiet;
 use super::answers::refused;
 use super::answers::sends;
-use super::numbers::deliver_number;
 use purse::Amount;
 use purse::CardAnswer;
 use purse::Message;
 use purse::Name;
 use purse::Purse;
+use refusals::numbers::deliver_number;
 ghost use mathlib.Core.Path.{_≡_};
 ghost use Prim.Native.Nat.{_+_, _≤_};
+ghost use Rattle.purse.specs.Purse.{ceiling};
 ghost use Rattle.purse.specs.Step.{paid, received, settled, deliverTo};
 
 // A request: the balance falls, and the value is sent.
@@ -32,7 +33,7 @@ fn pay(p: Purse) -> CardAnswer
 
 // A value: the balance rises, and the acknowledge is sent.
 fn receive(p: Purse) -> CardAnswer
-    requires { ⌜ p .balance .0 + p .details .amount .0 ≤ 5000000 ⌝ }
+    requires { ⌜ p .balance .0 + p .details .amount .0 ≤ ceiling p ⌝ }
     ensures { λ r. ⌜ r ≡ received p ⌝ }
 {
     let d = p.details;

@@ -1,7 +1,5 @@
 // The card: one purse record and its step. Told its own name, a card takes a start, a message, an abort or a collect, and gives the
 // answer's number, the record and what it hands out. It knows nothing of a bench.
-pub mod rules; // rules.rt: the test of the rules about one purse alone
-pub mod numbers; // numbers.rt: the tests of each step, in document 01's order
 pub mod answers; // answers.rt: refused, done
 pub mod starts; // starts.rt: start-from and start-to
 pub mod delivery; // delivery.rt: a message

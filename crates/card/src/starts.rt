@@ -2,8 +2,6 @@
 use super::answers::quiet;
 use super::answers::refused;
 use super::answers::sends;
-use super::numbers::from_number;
-use super::numbers::to_number;
 use purse::Amount;
 use purse::CardAnswer;
 use purse::Details;
@@ -11,6 +9,8 @@ use purse::Message;
 use purse::Name;
 use purse::Purse;
 use purse::Seq;
+use refusals::numbers::from_number;
+use refusals::numbers::to_number;
 ghost use mathlib.Core.Path.{_≡_};
 ghost use Rattle.purse.specs.Details.{zeroDetails, request};
 ghost use Rattle.purse.specs.Purse.{epv};

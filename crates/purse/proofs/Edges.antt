@@ -6,9 +6,10 @@ use mathlib.Core.List.{List, [], _∷_, _++_}
 use lib.ListN.{replicate}
 use Rattle.purse.specs.declared.Details.{Details}
 use Rattle.purse.specs.declared.Purse.{Purse}
+use Rattle.purse.specs.declared.CardEvent.{CardEvent}
 use Rattle.purse.specs.declared.CardEvent.the-variants.{StartFrom, StartTo, Deliver, Abort}
 use Rattle.purse.specs.Details.{zeroDetails, zeroMessage, sameDetails, legal, named, asPayer, asPayee, entryOk, absent}
-use Rattle.purse.specs.Purse.{idle, epr, epa, idleOk, busyOk, placeOk, logOk, wellFormed}
+use Rattle.purse.specs.Purse.{idle, epr, epv, epa, idleOk, busyOk, placeOk, logOk, wellFormed}
 use Rattle.purse.specs.Step.{refusedBy, done, expected, fromNumber, toNumber, deliverNumber, abortNumber, startFrom, startTo, deliverTo, abortBy}
 use Rattle.purse.specs.Card.{stepBy}
 
@@ -35,6 +36,21 @@ waiting =
 abbrev paidOff : Purse
 paidOff =
     record { balance = record { 0 = 0 }; next = record { 0 = 2 }; status = epa; details = payment 1; log = replicate 8 zeroDetails; logged = 0 }
+
+-- purse 1, which takes that payment: in epv, once the value has arrived, and once it is stopped instead
+abbrev expecting : Purse
+expecting =
+    record { balance = record { 0 = 200 }; next = record { 0 = 2 }; status = epv; details = payment 1; log = replicate 8 zeroDetails; logged = 0 }
+
+abbrev arrivedAt : Purse
+arrivedAt = resting 500 2
+
+abbrev pulledOut : Purse
+pulledOut =
+    record { balance = record { 0 = 200 }; next = record { 0 = 2 }; status = idle; details = zeroDetails; log = payment 1 ∷ replicate 7 zeroDetails; logged = 1 }
+
+abbrev theValue : CardEvent
+theValue = Deliver (record { kind = 2; details = payment 1 })
 
 -- seven entries
 abbrev seven : List Details
@@ -72,6 +88,11 @@ pub record Edges : Type 0 where
   pub zero-message : stepBy (resting 300 1) (record { 0 = 0 }) (Deliver zeroMessage) ≡ refusedBy 13 (resting 300 1)
   -- the request expected: the balance falls and the value is sent
   pub request-taken : stepBy waiting (record { 0 = 0 }) (Deliver (record { kind = 1; details = payment 1 })) ≡ done paidOff (record { kind = 2; details = payment 1 }) zeroDetails
+  -- the value expected: the balance rises and the acknowledge is sent; the same value again is refused
+  pub value-taken : stepBy expecting (record { 0 = 1 }) theValue ≡ done arrivedAt (record { kind = 3; details = payment 1 }) zeroDetails
+  pub value-again : stepBy arrivedAt (record { 0 = 1 }) theValue ≡ refusedBy 13 arrivedAt
+  -- a payee that is stopped logs its details
+  pub epv-abort : stepBy expecting (record { 0 = 1 }) Abort ≡ done pulledOut zeroMessage zeroDetails
   -- a request with another number of the payer
   pub other-number : stepBy waiting (record { 0 = 0 }) (Deliver (record { kind = 1; details = payment 2 })) ≡ refusedBy 13 waiting
 
@@ -99,5 +120,8 @@ edges =
       epr-abort = refl;
       zero-message = refl;
       request-taken = refl;
+      value-taken = refl;
+      value-again = refl;
+      epv-abort = refl;
       other-number = refl;
     }

@@ -2,11 +2,11 @@
 use crate::places::at_most;
 use crate::places::is_within;
 use crate::records::holds;
-use card::rules::is_entry;
 use desk::Archive;
 use desk::Entry;
 use purse::Name;
 use purse::Purse;
+use refusals::form::is_entry;
 ghost use mathlib.Core.Path.{_≡_};
 ghost use lib.ListN.{drop};
 ghost use Rattle.purse.specs.Lists.{all, distinct};

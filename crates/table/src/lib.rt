@@ -5,11 +5,11 @@ mod messages;
 mod places;
 mod records;
 
-use card::rules::well_formed;
 use desk::Desk;
 use desk::Held;
 use purse::Name;
 use purse::Purse;
+use refusals::form::well_formed;
 ghost use mathlib.Core.Path.{_≡_};
 ghost use Rattle.rules.specs.Laid.{heldOk};
 ghost use Rattle.table.specs.Records.{deskOk, recordOk};

@@ -1,11 +1,11 @@
 // The ether's messages: alone, and beside a record.
 use crate::places::at_most;
 use crate::places::is_within;
-use card::rules::is_named;
 use desk::Ether;
 use purse::Message;
 use purse::Name;
 use purse::Purse;
+use refusals::form::is_named;
 ghost use mathlib.Core.Path.{_≡_};
 ghost use lib.ListN.{drop};
 ghost use Rattle.purse.specs.Lists.{all, distinct};

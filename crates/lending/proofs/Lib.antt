@@ -1,0 +1,4 @@
+pub mod Structs
+mod Calls
+pub mod Slices
+pub mod Whole

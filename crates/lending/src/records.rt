@@ -1,0 +1,83 @@
+// The records of a lent table, all of them: tested, copied out to be worked on by value, and replaced.
+use crate::Reply;
+use desk::Answered;
+use desk::Desk;
+use purse::Purse;
+use table::desk_ok;
+use table::record_ok;
+ghost use mathlib.Core.Path.{_≡_};
+ghost use lib.ListN.{replicate};
+ghost use Rattle.purse.specs.Purse.{zeroPurse};
+ghost use Rattle.rules.specs.Laid.{heldOk};
+ghost use Rattle.lending.specs.Lent.{held, copiedOf, replacedOf};
+
+// Whether a lent table and a desk obey the rules: 32 records, the desk alone, then each record beside the desk.
+pub fn table_ok(table: &[Purse], desk: Desk) -> bool
+    ensures { λ r. ⌜ r ≡ heldOk (held (now (table .entry)) desk) ⌝ }
+{
+    if table.len() != 32 {
+        return false;
+    }
+    let mut ok = desk_ok(desk);
+    let mut at = 0;
+    while at < 32 {
+        ok = ok & record_ok(table[at], at, desk);
+        at = at + 1;
+    }
+    ok
+}
+
+// A table of unused records.
+pub fn unused() -> [Purse; 32]
+    ensures { λ r. ⌜ r ≡ replicate 32 zeroPurse ⌝ }
+{
+    let z = Purse::zero();
+    [z; 32]
+}
+
+// The records of a lent table of 32. For another length a table of unused records, which breaks the rules.
+pub fn copied(table: &[Purse]) -> [Purse; 32]
+    ensures { λ r. ⌜ r ≡ copiedOf (now (table .entry)) ⌝ }
+{
+    let mut all = unused();
+    if table.len() != 32 {
+        return all;
+    }
+    let mut i = 0;
+    while i < 32 {
+        all[i] = table[i];
+        i = i + 1;
+    }
+    all
+}
+
+// The table of what was answered.
+pub fn table_of(by: Answered) -> [Purse; 32]
+    ensures { λ r. ⌜ r ≡ by .held .table ⌝ }
+{
+    let held = by.held;
+    held.table
+}
+
+// What was answered by value is stored in a lent table of 32; another length is refused, and the table stays.
+pub fn replaced(table: &mut [Purse], desk: Desk, by: Answered) -> Reply
+    ensures { λ r. ⌜ (r ≡ replacedOf (now (table .entry)) desk by .reply) × (now (table .exit) ≡ replacedOf (now (table .entry)) desk by .table) ⌝ }
+{
+    if table.len() != 32 {
+        return Reply {
+            answer: 2,
+            desk: desk,
+        };
+    }
+    let from = table_of(by);
+    let mut i = 0;
+    while i < 32 {
+        table[i] = from[i];
+        i = i + 1;
+    }
+    let d = by.held.desk;
+    Reply {
+        answer: by.answer,
+        desk: d,
+    }
+}

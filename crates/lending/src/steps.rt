@@ -1,0 +1,51 @@
+// The bench's steps by value, as the entries call them: an event's bytes in place of the event, a table and a desk in place of what both make.
+use bench::Acted;
+use bench::act;
+use bench::claims;
+use bench::events::decode;
+use bench::opening;
+use bench::place_of;
+use desk::Answered;
+use desk::Desk;
+use desk::Figure;
+use desk::Held;
+use purse::Purse;
+ghost use mathlib.Core.Path.{_≡_};
+ghost use Rattle.rules.specs.Events.{decoded};
+ghost use Rattle.rules.specs.Laid.{heldOpening, heldClaims};
+ghost use Rattle.bench.specs.Acts.{placeOf, actOn};
+ghost use Rattle.lending.specs.Lent.{held};
+
+// The place of the record that an event names, below 32.
+pub fn place(event: &[u8]) -> usize
+    ensures { λ r. ⌜ r ≡ placeOf (decoded (now (event .entry))) ⌝ }
+{
+    place_of(decode(event))
+}
+
+// What an event does at that record.
+pub fn acted(p: Purse, desk: Desk, event: &[u8]) -> Acted
+    ensures { λ r. ⌜ r ≡ actOn p desk (decoded (now (event .entry))) ⌝ }
+{
+    act(p, desk, decode(event))
+}
+
+pub fn opened(table: [Purse; 32], desk: Desk, balances: &[u32]) -> Answered
+    ensures { λ r. ⌜ r ≡ heldOpening (held table desk) (now (balances .entry)) ⌝ }
+{
+    let all = Held {
+        table: table,
+        desk: desk,
+    };
+    opening(all, balances)
+}
+
+pub fn owed(table: [Purse; 32], desk: Desk) -> Figure
+    ensures { λ r. ⌜ r ≡ heldClaims (held table desk) ⌝ }
+{
+    let all = Held {
+        table: table,
+        desk: desk,
+    };
+    claims(all)
+}

@@ -1,0 +1,15 @@
+-- `card::rules::is_named` meets its contract: by what `is_legal` promises. Assumes nothing.
+use Rattle.purse.specs.Details.{named}
+use borrow.Author.Needs.{needs}
+use Rattle.refusals.proofs.form.is_named.Statement.{statement}
+use Rattle.refusals.proofs.form.is_named.Tie as tie
+
+is-legal-requires : tie.Need-is-legal-requires
+is-legal-requires c κs = search needs
+
+returns : tie.Need-returns
+unfolding named
+returns c = cc
+
+pub is-named-spec : {M : Type 1} → statement M
+is-named-spec = tie.close (tie.spec is-legal-requires returns)

@@ -1,0 +1,11 @@
+-- `card::rules::is_payee` meets its contract: by computing the definition. Assumes nothing.
+use Rattle.purse.specs.Details.{asPayee}
+use Rattle.refusals.proofs.form.is_payee.Statement.{statement}
+use Rattle.refusals.proofs.form.is_payee.Tie as tie
+
+returns : tie.Need-returns
+unfolding asPayee
+returns c = cc
+
+pub is-payee-spec : {M : Type 1} → statement M
+is-payee-spec = tie.close (tie.spec returns)

@@ -1,0 +1,47 @@
+-- `card::rules::is_place_ok` meets its contract: by what its tests promise. Assumes nothing.
+use Rattle.purse.specs.Purse.{placeOk}
+use borrow.Author.Needs.{needs}
+use Rattle.refusals.proofs.form.is_place_ok.Statement.{statement}
+use Rattle.refusals.proofs.form.is_place_ok.Tie as tie
+
+mul-e : tie.Need-mul-e
+mul-e c = search needs
+
+array-copy-out-e : tie.Need-array-copy-out-e
+array-copy-out-e c = search needs
+
+cast-n : tie.Need-cast-n
+cast-n c = search needs
+
+is-entry-requires : tie.Need-is-entry-requires
+is-entry-requires c κs = search needs
+
+same-requires : tie.Need-same-requires
+same-requires c κs = search needs
+
+is-absent-requires : tie.Need-is-absent-requires
+is-absent-requires c κs = search needs
+
+zero-requires : tie.Need-zero-requires
+zero-requires c κs = search needs
+
+same-requires-2 : tie.Need-same-requires-2
+same-requires-2 c κs = search needs
+
+returns : tie.Need-returns
+unfolding placeOk
+returns c = cc
+
+pub is-place-ok-spec : {M : Type 1} → statement M
+is-place-ok-spec =
+    tie.close
+    (tie.spec
+    mul-e
+    array-copy-out-e
+    cast-n
+    is-entry-requires
+    same-requires
+    is-absent-requires
+    zero-requires
+    same-requires-2
+    returns)

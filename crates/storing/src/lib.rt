@@ -1,0 +1,35 @@
+// Stored images, over a table lent to each call: an image is written from the table copied out, or read by value and stored in the lent table.
+use desk::Desk;
+use layout::Written;
+use lending::Reply;
+use lending::records::copied;
+use lending::records::replaced;
+use purse::Purse;
+use steps::read_in;
+use steps::written;
+ghost use mathlib.Core.Path.{_≡_};
+ghost use Rattle.layout.specs.Calls.{heldWrite, heldBuffer, heldRead};
+ghost use Rattle.lending.specs.Lent.{held, replyOf};
+
+pub mod steps; // steps.rt: an image written and read by value, as the entries call it
+
+// The image of the bench, at the start of a buffer.
+#[no_mangle]
+pub extern "C" fn image_write(table: &[Purse], desk: Desk, out: &mut [u8]) -> Written
+    ensures { λ r.
+        ⌜ (r ≡ heldWrite (held (now (table .entry)) desk) (now (out .entry)))
+        × (now (out .exit) ≡ heldBuffer (held (now (table .entry)) desk) (now (out .entry))) ⌝ }
+{
+    written(copied(table), desk, out)
+}
+
+// The bench that an image gives.
+#[no_mangle]
+pub extern "C" fn image_read(table: &mut [Purse], desk: Desk, bytes: &[u8]) -> Reply
+    ensures { λ r.
+        ⌜ (r ≡ replyOf (heldRead (held (now (table .entry)) desk) (now (bytes .entry))))
+        × (now (table .exit) ≡ heldRead (held (now (table .entry)) desk) (now (bytes .entry)) .held .table) ⌝ }
+{
+    let by = read_in(copied(table), desk, bytes);
+    replaced(table, desk, by)
+}

@@ -1,0 +1,378 @@
+#!/usr/bin/env python3
+"""The test vectors of the bench program: inputs named here, their listings beside them.
+
+Each vector is an input in the words of examples/README.md and the answers that document 01 gives
+it, worked out by hand; `..` at the front stands for answers not written out. The vectors and the
+examples are kept as files: tests/vectors/NAME.in and NAME.out, examples/NAME.txt and NAME.out.
+
+    vectors.py             checks the files against the answers below and against the model
+    vectors.py --write     writes the files anew
+
+examples.sh runs the program on them.
+"""
+
+import argparse
+
+from common import EXAMPLES, VECTORS, finish, words
+import model
+
+LISTING = """
+open 1000 200
+start-from 0 to 1 number 1 amount 300
+start-to 1 from 0 number 1 amount 300
+deliver 0 to 0
+abort 1
+deliver 1 to 1
+abort 0
+collect 0
+collect 1
+"""
+
+# "prints:", as document 01 gives it
+LISTING_PRINTED = """\
+PRS 1
+1 0
+2 0
+3 0
+4 0
+5 13
+6 0
+7 0
+8 0
+purse 0 700 2 0 0
+purse 1 200 2 0 0
+messages 2 archive 2 claims 300
+"""
+
+TWO = "open 1000 200\n"
+PAYMENT = "start-from 0 to 1 number 1 amount 300\nstart-to 1 from 0 number 1 amount 300\n"
+LOGGED = "start-to 1 from 0 number 1 amount 1\nabort 1\n"
+START_TO = "start-to 1 from 0 number 1 amount 1\n"
+# 256 requests stand; purse 1 is idle with an empty log, the archive holds 256 entries
+FILLED = TWO + (LOGGED + "collect 1\n") * 256
+
+
+def opened(count, balance=100):
+    """The opening of `count` purses with one balance, as bytes."""
+    return f"bytes {count:02x} " + f"{balance:08x} " * count + "\n"
+
+
+def events(*rows):
+    """Raw events as hex."""
+    return "".join(f"bytes {row}\n" for row in rows)
+
+
+def places(*numbers):
+    """A delivery and a loss at each of these places."""
+    return "".join(f"deliver {place} to 0\nlose {place}\n" for place in numbers)
+
+
+VECTORS_MADE = {
+    # the listing of document 01
+    "listing": (LISTING, "0 0 0 0 13 0 0 0"),
+    "no-events": (TWO, ""),
+    # "At the edges", those that events can reach from an opening
+    "edge-amounts": (
+        TWO
+        + "start-from 0 to 1 number 1 amount 0\n"
+        + "start-to 1 from 0 number 1 amount 0\n"
+        + "start-from 0 to 1 number 1 amount 5000001\n"
+        + "start-to 1 from 0 number 1 amount 5000001\n"
+        + "start-from 0 to 1 number 1 amount 1\n"
+        + "start-to 1 from 0 number 1 amount 1\n",
+        "7 7 7 7 0 0",
+    ),
+    "edge-balance-300": (
+        "open 300 0\n"
+        + "start-from 0 to 1 number 1 amount 301\n"
+        + "start-from 0 to 1 number 1 amount 300\n",
+        "11 0",
+    ),
+    "edge-payee-4999700": (
+        "open 300 4999700\n"
+        + "start-to 1 from 0 number 1 amount 301\n"
+        + "start-to 1 from 0 number 1 amount 300\n"
+        + "start-from 0 to 1 number 1 amount 300\n"
+        + "deliver 0 to 0\ndeliver 1 to 1\n",
+        "12 0 0 0 0",
+    ),
+    "edge-whole-balance": (
+        "open 5000000 0\n"
+        + "start-from 0 to 1 number 1 amount 5000000\n"
+        + "start-to 1 from 0 number 1 amount 5000000\n"
+        + "deliver 0 to 0\ndeliver 1 to 1\ndeliver 2 to 0\n"
+        + "start-from 0 to 1 number 1 amount 1\n"
+        + "start-to 1 from 0 number 1 amount 1\n",
+        "0 0 0 0 0 11 12",
+    ),
+    "edge-7-log-entries": (TWO + LOGGED * 7 + START_TO, ".. 0"),
+    "edge-8-log-entries": (
+        TWO + LOGGED * 8 + START_TO + "start-from 1 to 0 number 1 amount 1\n",
+        ".. 10 10",
+    ),
+    "edge-itself-amount-0": (
+        TWO
+        + "start-from 0 to 0 number 1 amount 0\n"
+        + "start-to 1 from 1 number 1 amount 0\n",
+        "6 6",
+    ),
+    "edge-value-again": (
+        TWO + PAYMENT + "deliver 0 to 0\ndeliver 1 to 1\ndeliver 1 to 1\n",
+        "0 0 0 0 13",
+    ),
+    "edge-256-messages": (
+        FILLED
+        + START_TO
+        + "abort 1\n"
+        + PAYMENT
+        + "deliver 255 to 0\nlose 255\nabort 1\n"
+        + "start-to 1 from 0 number 1 amount 300\n"
+        + "deliver 255 to 0\ndeliver 255 to 1\n"
+        + "lose 4\nabort 1\n"
+        + START_TO,
+        ".. 1 0 0 1 13 0 0 0 13 13 0 0 0",
+    ),
+    "edge-place-equal-count": (
+        TWO
+        + "deliver 0 to 0\nlose 0\n"
+        + START_TO
+        + "deliver 1 to 0\nlose 1\ndeliver 0 to 0\nlose 0\nlose 0\n",
+        "5 5 0 5 5 13 0 5",
+    ),
+    "edge-11-bytes": (TWO + events("01000100 00000001 000001"), "3"),
+    # answer 3
+    "kinds-malformed": (
+        TWO + events(*(f"{kind:02x}000000 00000000 00000000" for kind in (0, 7, 8, 128, 255))),
+        "3 3 3 3 3",
+    ),
+    "spare-not-zero": (
+        TWO
+        + events(
+            "01000101 00000001 00000001",
+            "02010001 00000001 00000001",
+            "03000080 00000000 00000000",
+            "040000ff 00000000 00000000",
+            "05000001 00000000 00000000",
+            "06000001 00000000 00000000",
+            "04000000 00000000 00000000",
+        ),
+        "3 3 3 3 3 3 0",
+    ),
+    "unused-deliver": (
+        TWO
+        + PAYMENT
+        + events(
+            "03000100 00000000 00000000",
+            "0300ff00 00000000 00000000",
+            "03000000 00000000 00000001",
+            "03000000 00000000 01000000",
+            "03000000 00000000 00000000",
+        ),
+        "0 0 3 3 3 3 0",
+    ),
+    "unused-abort": (
+        TWO
+        + PAYMENT
+        + events(
+            "04010100 00000000 00000000",
+            "0401ff00 00000000 00000000",
+            "04010000 00000001 00000000",
+            "04010000 80000000 00000000",
+            "04010000 00000000 00000001",
+            "04010000 00000000 80000000",
+            "04010000 00000000 00000000",
+        ),
+        "0 0 3 3 3 3 3 3 0",
+    ),
+    "unused-lose": (
+        TWO
+        + PAYMENT
+        + events(
+            "05010000 00000000 00000000",
+            "05ff0000 00000000 00000000",
+            "05000100 00000000 00000000",
+            "0500ff00 00000000 00000000",
+            "05000000 00000000 00000001",
+            "05000000 00000000 80000000",
+            "05000000 00000000 00000000",
+        ),
+        "0 0 3 3 3 3 3 3 0",
+    ),
+    "unused-collect": (
+        TWO
+        + LOGGED
+        + events(
+            "06010100 00000000 00000000",
+            "0601ff00 00000000 00000000",
+            "06010000 00000001 00000000",
+            "06010000 80000000 00000000",
+            "06010000 00000000 00000001",
+            "06010000 00000000 80000000",
+            "06010000 00000000 00000000",
+        ),
+        "0 0 3 3 3 3 3 3 0",
+    ),
+    # a used field never gives 3, however large
+    "used-fields-largest": (
+        TWO
+        + events(
+            "01ffff00 ffffffff ffffffff",
+            "02ffff00 ffffffff ffffffff",
+            "0100ff00 ffffffff ffffffff",
+            "01000100 ffffffff ffffffff",
+            "02010000 ffffffff 00000001",
+            "01000100 00000000 00000001",
+            "03ff0000 ffffffff 00000000",
+            "04ff0000 00000000 00000000",
+            "06ff0000 00000000 00000000",
+        ),
+        "4 4 6 7 0 0 4 4 4",
+    ),
+    # a place is compared with all its bits
+    "places-large": (
+        TWO
+        + PAYMENT
+        + places(1, 256, 65536, 16777216, 4294967295)
+        + "deliver 0 to 0\n",
+        "0 0 5 5 5 5 5 5 5 5 5 5 0",
+    ),
+    "places-large-full": (
+        FILLED
+        + places(256, 511, 65536, 4294967295)
+        + "deliver 255 to 0\nlose 255\nlose 255\n",
+        ".. 5 5 5 5 5 5 5 5 13 0 5",
+    ),
+    # the order of the refusals
+    "order-starts": (
+        "open 100 4999900 50\n"
+        + LOGGED * 8
+        + "start-from 3 to 3 number 1 amount 0\n"  # 4, 6, 7
+        + "start-from 1 to 3 number 1 amount 0\n"  # 6, 7, 10
+        + "start-from 1 to 0 number 1 amount 0\n"  # 7, 10
+        + "start-from 1 to 0 number 1 amount 5000000\n"  # 10, 11
+        + "start-to 1 from 0 number 1 amount 5000000\n"  # 10, 12
+        + "start-from 0 to 2 number 1 amount 100\n"
+        + "start-from 0 to 0 number 1 amount 5000001\n"  # 6, 7, 8
+        + "start-from 0 to 2 number 1 amount 5000001\n"  # 7, 8
+        + "start-from 0 to 2 number 1 amount 101\n"  # 8, 11
+        + "start-to 0 from 2 number 1 amount 5000000\n",  # 8, 12
+        ".. 4 6 7 10 10 0 6 7 8 8",
+    ),
+    "order-deliver": (
+        TWO + "deliver 0 to 2\n" + PAYMENT + "deliver 1 to 2\ndeliver 1 to 1\ndeliver 0 to 1\n",
+        "4 0 0 4 5 13",
+    ),
+    "order-collect": (FILLED + LOGGED + "collect 1\ncollect 0\ncollect 2\n", ".. 1 0 15 14 4"),
+    # steps that are done although they look odd
+    "idle-abort": (TWO + "abort 0\nabort 1\nabort 2\n", "0 0 4"),
+    "epr-abort": (TWO + "start-from 0 to 1 number 1 amount 300\nabort 0\n", "0 0"),
+    "busy-collect": (TWO + LOGGED + START_TO + "collect 1\ncollect 1\n", "0 0 0 0 14"),
+    "wrong-messages": (
+        TWO
+        + PAYMENT
+        + "deliver 0 to 1\ndeliver 0 to 0\ndeliver 0 to 0\ndeliver 1 to 0\ndeliver 1 to 1\n"
+        + "deliver 2 to 1\ndeliver 2 to 0\ndeliver 2 to 0\n",
+        "0 0 13 0 13 13 0 13 0 13",
+    ),
+    "crosswise": (
+        TWO
+        + PAYMENT
+        + "abort 0\nabort 1\n"
+        + "start-from 0 to 1 number 1 amount 300\n"
+        + "deliver 0 to 0\nabort 0\n"
+        + "start-from 0 to 1 number 2 amount 300\n"
+        + "deliver 0 to 0\n",
+        "0 0 0 0 0 13 0 0 13",
+    ),
+    # opening
+    "open-empty-input": ("", "opening 20"),
+    "open-0": ("bytes 00", "opening 20"),
+    "open-0-and-more": ("bytes 00 00000001 04000000 00000000 00000000", "opening 20"),
+    "open-1": (opened(1) + "start-from 0 to 0 number 1 amount 1\nabort 0\nabort 1\n", "6 0 4"),
+    "open-32": (
+        opened(32)
+        + "start-from 31 to 30 number 1 amount 100\nstart-to 0 from 31 number 1 amount 1\n"
+        + "start-from 1 to 32 number 1 amount 1\nabort 32\ndeliver 0 to 31\n",
+        "0 0 6 4 13",
+    ),
+    "open-33": (opened(33), "opening 20"),
+    "open-128": (opened(128), "opening 20"),
+    "open-255": (opened(255), "opening 20"),
+    "open-cut-0": ("bytes 02", "opening 20"),
+    "open-cut-1": ("bytes 02 000003e8", "opening 20"),
+    "open-cut-7": ("bytes 02 000003e8 0000c8", "opening 20"),
+    "open-5000000": ("open 5000000 5000000", ""),
+    "open-5000001": ("open 1000 5000001 3\nabort 0\n", "opening 21"),
+    "open-largest": ("open 4294967295", "opening 21"),
+    "open-21-and-20": ("bytes 02 004c4b41 000000", "opening 20"),
+    "open-21-and-33": (opened(33, 5000001), "opening 20"),
+    # a last event cut short
+    "cut-1": (LISTING + "bytes 01", "0 0 0 0 13 0 0 0 3"),
+    "cut-11": (LISTING + events("04000000 00000000 000000"), "0 0 0 0 13 0 0 0 3"),
+}
+
+
+def printed(answers, listing):
+    """Whether the listing has these answers, in order."""
+    lines = listing.decode().splitlines()
+    if answers.startswith("opening"):
+        return lines == ["PRS 1", answers]
+    got = [line.split()[1] for line in lines[1:] if line[0].isdigit()]
+    want = answers.split()
+    if want[:1] == [".."]:
+        want = want[1:]
+        got = got[-len(want) :]
+    return got == want
+
+
+def all_vectors():
+    """Name, input, listing file and hand-worked answers of every vector and example."""
+    for name, (text, answers) in VECTORS_MADE.items():
+        yield name, words.text_bytes(text), VECTORS / f"{name}.out", answers
+    for path in sorted(EXAMPLES.glob("*.txt")):
+        yield path.stem, words.text_bytes(path.read_text()), path.with_suffix(".out"), None
+
+
+def write_all():
+    VECTORS.mkdir(exist_ok=True)
+    for old in VECTORS.iterdir():
+        old.unlink()
+    for name, data, listing, answers in all_vectors():
+        if answers is not None:
+            (VECTORS / f"{name}.in").write_bytes(data)
+        listing.write_bytes(model.program(data))
+
+
+def wrong(name, data, listing, answers):
+    """What is wrong with a vector, in words; None where nothing is."""
+    want = listing.read_bytes()
+    if answers is not None and (VECTORS / f"{name}.in").read_bytes() != data:
+        return "the input file is not what the words say"
+    if answers is not None and not printed(answers, want):
+        return f"the listing file does not give the answers {answers}"
+    if name == "listing" and want.decode() != LISTING_PRINTED:
+        return "the listing file is not document 01's listing"
+    if model.program(data) != want:
+        return "the model prints another listing"
+    return None
+
+
+def main():
+    options = argparse.ArgumentParser(description=__doc__.splitlines()[0])
+    options.add_argument("--write", action="store_true", help="write the files anew")
+    asked = options.parse_args()
+    if asked.write:
+        write_all()
+    passed = failed = 0
+    for name, data, listing, answers in all_vectors():
+        fault = wrong(name, data, listing, answers)
+        if fault is None:
+            passed += 1
+        else:
+            failed += 1
+            print(f"{name}: {fault}")
+    finish(passed, failed)
+
+
+if __name__ == "__main__":
+    main()
