@@ -1,3 +1,5 @@
+-- `stream::events` meets its contract. It is safe and ends: the measure is the number of turns left, and nothing has to hold from turn to turn.
+-- Assumes nothing.
 use borrow.Author.Needs.{needs}
 use Rattle.stream.proofs.events.Statement.{statement}
 use Rattle.stream.proofs.events.Tie as tie

@@ -1,3 +1,5 @@
+-- `stream::open` meets its contract. At most 32 balances are lent.
+-- Assumes nothing.
 use mathlib.Core.Path.{sym}
 use lib.Seq.{length-take-le}
 use borrow.Author.Needs.{needs}

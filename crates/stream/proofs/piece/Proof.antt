@@ -1,3 +1,5 @@
+-- `stream::piece` meets its contract. The lines' length lies within their buffer; an event's number is far below 64 bits.
+-- Assumes nothing.
 use mathlib.Core.Path.{sym}
 use lib.Seq.{length-take-le}
 use borrow.Author.Needs.{needs}

@@ -1,3 +1,5 @@
+-- `stream::read_opening` meets its contract. At most 129 bytes are asked for.
+-- Assumes nothing.
 use native.Mathlib.Omega.{arith}
 use mathlib.Core.Path.{sym}
 use lib.Seq.{length-take-le}

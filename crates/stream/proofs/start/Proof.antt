@@ -1,3 +1,5 @@
+-- `stream::start` meets its contract. What was read lies within its buffer.
+-- Assumes nothing.
 use mathlib.Core.Path.{sym}
 use lib.Seq.{length-take-le}
 use borrow.Author.Needs.{needs}

@@ -1,3 +1,5 @@
+-- `stream::write_foot` meets its contract. The lines' length lies within their buffer.
+-- Assumes nothing.
 use mathlib.Core.Path.{sym}
 use lib.Seq.{length-take-le}
 use borrow.Author.Needs.{needs}

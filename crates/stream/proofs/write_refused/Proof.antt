@@ -1,3 +1,5 @@
+-- `stream::write_refused` meets its contract. The line's length lies within its buffer.
+-- Assumes nothing.
 use mathlib.Core.Path.{sym}
 use lib.Seq.{length-take-le}
 use borrow.Author.Needs.{needs}

@@ -1,3 +1,5 @@
+-- `listing::input::balance_bytes` meets its contract. By the count.
+-- Assumes nothing.
 use borrow.Author.Tests.{lt-leb, le-leb}
 use borrow.Author.Needs.{needs}
 use Rattle.listing.proofs.input.balance_bytes.Statement.{statement}

@@ -1,3 +1,5 @@
+-- `listing::input::balances` meets its contract. The loop's invariant: the first i balances are laid from place 0 on, zero behind them.
+-- Assumes nothing.
 use Prim.Native.Nat.{_≤_, _<_, _-_, _+_, _*_}
 use native.Mathlib.Omega.{arith}
 use mathlib.Core.Path.{_≡_, refl}

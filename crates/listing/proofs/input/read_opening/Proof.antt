@@ -1,3 +1,5 @@
+-- `listing::input::read_opening` meets its contract. No byte, a count above 32, too few bytes, or all balances there.
+-- Assumes nothing.
 use Rattle.listing.proofs.Opened.{nothing-there, too-many, too-few, all-there}
 use borrow.Author.Needs.{needs}
 use Rattle.listing.proofs.input.read_opening.Statement.{statement}

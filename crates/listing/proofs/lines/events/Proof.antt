@@ -1,3 +1,5 @@
+-- `listing::lines::events` meets its contract. The loop's invariant: the lines of the first i answers are put, at most 42 bytes each, and the next event's number is i more than the first.
+-- Assumes nothing.
 use Prim.Native.Nat.{ℕ, _≤_, _<_, _-_, _+_, _*_}
 use native.Mathlib.Omega.{arith}
 use mathlib.Core.Path.{_≡_, refl, ap, _∙_}

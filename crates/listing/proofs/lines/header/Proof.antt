@@ -1,3 +1,5 @@
+-- `listing::lines::header` meets its contract. A buffer of 6 bytes holds the line; a shorter one is not touched.
+-- Assumes nothing.
 use borrow.Author.Tests.{lt-leb, le-leb}
 use Rattle.listing.proofs.Puts.{filled, not-filled}
 use borrow.Author.Needs.{needs}

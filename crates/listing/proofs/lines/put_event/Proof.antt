@@ -1,3 +1,5 @@
+-- `listing::lines::put_event` meets its contract. The event's number, its answer and the line end, one behind the other.
+-- Assumes nothing.
 use Rattle.listing.specs.Listing.{eventLine}
 use Rattle.listing.proofs.Puts.{then, one-byte}
 use borrow.Author.Needs.{needs}

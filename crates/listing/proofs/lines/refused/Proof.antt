@@ -1,3 +1,5 @@
+-- `listing::lines::refused` meets its contract. Text, number and line end, one behind the other, where the buffer has room for the longest.
+-- Assumes nothing.
 use borrow.Author.Tests.{lt-leb, le-leb}
 use Rattle.listing.specs.Listing.{openingLine}
 use Rattle.listing.proofs.Puts.{then, one-byte, filled, not-filled}

@@ -1,3 +1,5 @@
+-- `listing::numbers::get_number` meets its contract. Four bytes are the number's definition unfolded; each is below 256, so the sum fits.
+-- Assumes nothing.
 use native.Mathlib.Omega.{arith}
 use native.Mathlib.Nat.{add-zero}
 use Rattle.layout.specs.Bytes.{numberAt}

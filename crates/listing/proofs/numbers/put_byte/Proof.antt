@@ -1,3 +1,5 @@
+-- `listing::numbers::put_byte` meets its contract. One store is one byte put.
+-- Assumes nothing.
 use mathlib.Core.Path.{refl}
 use Rattle.layout.specs.Bytes.{put}
 use borrow.Author.Needs.{needs}

@@ -1,3 +1,5 @@
+-- `listing::pieces::answer_all` meets its contract. The run takes every whole event; where bytes are left, one event more is taken.
+-- Assumes nothing.
 use borrow.Rule.Slice.PartAt.{part-to-end}
 use Rattle.rules.specs.Laid.{heldStep}
 use Rattle.bench.specs.Runs.{pieces}

@@ -1,3 +1,5 @@
+-- `listing::pieces::piece` meets its contract. A piece that does not fit leaves all as it was; of another, the lines are those of the answers that the run gave.
+-- Assumes nothing.
 use Prim.Native.Nat.{_≤_}
 use native.Mathlib.Omega.{arith}
 use mathlib.Core.Path.{_≡_, sym, ap, _∙_}

@@ -1,3 +1,5 @@
+-- `listing::purses::foot` meets its contract. The figure put is the one that the bench's contract gives.
+-- Assumes nothing.
 use mathlib.Core.Path.{_≡_, ap}
 use borrow.Author.Tests.{lt-leb, le-leb}
 use Rattle.desk.specs.declared.Figure.{Figure}

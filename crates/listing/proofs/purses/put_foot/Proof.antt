@@ -1,3 +1,5 @@
+-- `listing::purses::put_foot` meets its contract. The purse lines and the last line; a count above 32 takes the whole table, as the definition does.
+-- Assumes nothing.
 use Prim.Native.Nat.{ℕ}
 use native.Mathlib.Omega.{arith}
 use mathlib.Core.Path.{_≡_, ap, _∙_}

@@ -1,3 +1,5 @@
+-- `listing::purses::put_last` meets its contract. Messages, archive and claims, one behind the other.
+-- Assumes nothing.
 use Rattle.listing.specs.Text.{field}
 use Rattle.listing.specs.Listing.{lastLine}
 use Rattle.listing.proofs.Puts.{then, one-byte, then-two}

@@ -1,3 +1,5 @@
+-- `listing::purses::put_purse` meets its contract. Name, balance, next number, status and log entries, one behind the other.
+-- Assumes nothing.
 use native.Mathlib.Omega.{arith}
 use Rattle.listing.specs.Text.{field}
 use Rattle.listing.specs.Listing.{purseLine}

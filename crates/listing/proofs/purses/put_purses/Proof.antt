@@ -1,3 +1,5 @@
+-- `listing::purses::put_purses` meets its contract. The loop's invariant: the lines of the first i purses are put, at most 111 bytes each.
+-- Assumes nothing.
 use Prim.Native.Nat.{ℕ, _≤_, _<_, _-_, _*_}
 use native.Mathlib.Omega.{arith}
 use mathlib.Core.Path.{_≡_, refl, _∙_}

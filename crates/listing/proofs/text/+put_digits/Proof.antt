@@ -1,3 +1,5 @@
+-- `listing::text::put_digits` meets its contract. The measure is the number of places left. By the number: no place, one digit, or the digits of a tenth of it and one more.
+-- Assumes nothing.
 use mathlib.Core.Path.{sym, ap, _∙_}
 use mathlib.Core.List.{[], _∷_, _++_}
 use Rattle.listing.specs.Text.{digits}

@@ -1,3 +1,5 @@
+-- `listing::text::put_field` meets its contract. A space and a number, one behind the other.
+-- Assumes nothing.
 use Rattle.listing.proofs.Puts.{then, one-byte}
 use borrow.Author.Needs.{needs}
 use Rattle.listing.proofs.text.put_field.Statement.{statement}

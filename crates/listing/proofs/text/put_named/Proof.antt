@@ -1,3 +1,5 @@
+-- `listing::text::put_named` meets its contract. A text and a number, one behind the other.
+-- Assumes nothing.
 use Rattle.listing.proofs.Puts.{then}
 use borrow.Author.Needs.{needs}
 use Rattle.listing.proofs.text.put_named.Statement.{statement}

@@ -1,3 +1,5 @@
+-- `listing::text::put_text` meets its contract. The loop's invariant: the first i bytes of the text are put, and the next goes behind them.
+-- Assumes nothing.
 use Prim.Native.Nat.{_≤_, _<_, _-_, _+_}
 use native.Mathlib.Omega.{arith}
 use mathlib.Core.Path.{_≡_, refl}

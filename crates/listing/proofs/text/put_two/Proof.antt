@@ -1,3 +1,5 @@
+-- `listing::text::put_two` meets its contract. Two numbers, one behind the other.
+-- Assumes nothing.
 use Rattle.listing.proofs.Puts.{then}
 use borrow.Author.Needs.{needs}
 use Rattle.listing.proofs.text.put_two.Statement.{statement}
