@@ -1,27 +1,23 @@
 #!/bin/sh
-# Builds tests/replay.c over the bench's static library and replays document 01's worked input; the listing must be the one there.
-# From the repository's root: tests/replay.sh
+# Builds tests/replay.c over the bench's static library and replays document 01's worked input through the entries over the lent table; the
+# listing must be the document's. Run from anywhere. The library is x86-64: elsewhere the cross compiler and the kit's emulator serve.
 set -e
-rt staticlib lending > /dev/null
-cc -O2 -Wall -Wextra -Iinclude tests/replay.c target/staticlib/liblending.a -o target/replay
-printf '%s' '02 000003E8 000000C8
-01000100 00000001 0000012C 02010000 00000001 0000012C 03000000 00000000 00000000 04010000 00000000 00000000
-03010000 00000001 00000000 04000000 00000000 00000000 06000000 00000000 00000000 06010000 00000000 00000000' \
-    | tr -d ' \n' | xxd -r -p > target/replay.in
-cat > target/replay.expected <<'L'
-PRS 1
-1 0
-2 0
-3 0
-4 0
-5 13
-6 0
-7 0
-8 0
-purse 0 700 2 0 0
-purse 1 200 2 0 0
-messages 2 archive 2 claims 300
-L
-target/replay < target/replay.in > target/replay.out
-diff target/replay.expected target/replay.out
+cd "$(dirname "$0")/.."
+if [ "$(uname -m)" = x86_64 ]; then
+    compiler=cc
+    run=
+else
+    compiler=x86_64-linux-gnu-gcc
+    rt=$(readlink -f "$(command -v rt)")
+    run=${RATTLE_HOME:-$(cd "$(dirname "$rt")/.." && pwd -P)}/on/$(uname -m)/toolchain/bin/qemu-x86_64
+fi
+if ! command -v "$compiler" >/dev/null 2>&1; then
+    echo "replay: no $compiler: skipped"
+    exit 0
+fi
+rt staticlib lending >/dev/null
+"$compiler" -O2 -Wall -Wextra -static -Iinclude tests/replay.c target/staticlib/liblending.a -o target/replay
+$run target/replay <crates/prs/stdin >target/replay.out
+diff crates/prs/stdout target/replay.out
 echo "replay: the listing is document 01's"
+echo "1 passed, 0 failed"
