@@ -1,7 +1,7 @@
 /* What a call costs: our functions and the plain C of plain.c, in one process, on the same states.
 
    bench check        both answer the same and leave the same bytes
-   bench count WHAT   one call of each side, for callgrind: the counts are dumped at each, side by side
+   bench count        each call once on each side, for callgrind: the counts are dumped at each
    bench time         interleaved timing, the least of many runs
    bench stack        how deep each call's stack goes
 
@@ -17,7 +17,9 @@
 #include <ucontext.h>
 #include <valgrind/callgrind.h>
 
-/* ---- Our functions: crate timed, by value ---- */
+/* ---- Our functions: the crate timed, by value; with LENT, the entries over a lent table and a lent record
+   (crates slot, lending and storing) in place of all but the run. plain.c's names are given a prefix by
+   benchmarks/run, since the entries have the same ones. ---- */
 
 typedef struct { Purse table[PURSES]; Desk desk; } Held;
 typedef struct { uint8_t answer; Held held; } Answered;
@@ -32,6 +34,18 @@ Ran timed_run(Held held, const uint8_t *input, size_t length, uint8_t *answers, 
 Figure timed_claims(Held held);
 Written timed_write(Held held, uint8_t *out, size_t length);
 Answered timed_read(Held held, const uint8_t *bytes, size_t length);
+
+#ifdef LENT
+typedef struct { uint8_t answer; Desk desk; } Reply;
+typedef struct { uint8_t kind; Name other; Seq seq; Amount amount; Message message; } Order;
+typedef struct { uint8_t answer; Message message; Details entry; } Handed;
+
+Handed lent_card(Purse *purse, Name own, Order order) __asm__("card_event");
+Reply lent_event(Purse *table, size_t records, Desk desk, const uint8_t *event, size_t length) __asm__("bench_event");
+Figure lent_claims(const Purse *table, size_t records, Desk desk) __asm__("bench_claims");
+Written lent_write(const Purse *table, size_t records, Desk desk, uint8_t *out, size_t length) __asm__("image_write");
+Reply lent_read(Purse *table, size_t records, Desk desk, const uint8_t *bytes, size_t length) __asm__("image_read");
+#endif
 
 /* ---- States: 32 purses, so many messages and archive entries, log entries up to a count ---- */
 
@@ -133,9 +147,15 @@ static size_t image_length;
 static size_t run_events;
 
 static void our_event(World *w) {
+#ifdef LENT
+    Reply a = lent_event(w->held.table, PURSES, w->held.desk, event, EVENT_BYTES);
+    w->answer = a.answer;
+    w->held.desk = a.desk;
+#else
     Answered a = timed_event(w->held, event, EVENT_BYTES);
     w->answer = a.answer;
     w->held = a.held;
+#endif
 }
 static void c_event(World *w) {
     w->answer = bench_event(w->held.table, PURSES, &w->held.desk, event, EVENT_BYTES);
@@ -150,37 +170,64 @@ static void c_run(World *w) {
                           run_events * EVENT_BYTES, w->answers);
 }
 static void our_write(World *w) {
+#ifdef LENT
+    Written r = lent_write(w->held.table, PURSES, w->held.desk, w->bytes, sizeof w->bytes);
+    w->answer = r.answer;
+    w->length = r.length;
+#else
     Written r = timed_write(w->held, w->bytes, sizeof w->bytes);
     w->answer = r.answer;
     w->length = r.length;
+#endif
 }
 static void c_write(World *w) {
     w->answer = image_write(w->held.table, PURSES, &w->held.desk, w->bytes, sizeof w->bytes,
                             &w->length);
 }
 static void our_read(World *w) {
+#ifdef LENT
+    Reply a = lent_read(w->held.table, PURSES, w->held.desk, image, image_length);
+    w->answer = a.answer;
+    w->held.desk = a.desk;
+#else
     Answered a = timed_read(w->held, image, image_length);
     w->answer = a.answer;
     w->held = a.held;
+#endif
 }
 static void c_read(World *w) {
     w->answer = image_read(w->held.table, PURSES, &w->held.desk, image, image_length);
 }
 static void our_claims(World *w) {
+#ifdef LENT
+    Figure f = lent_claims(w->held.table, PURSES, w->held.desk);
+    w->answer = f.answer;
+    w->figure = f.claims;
+#else
     Figure f = timed_claims(w->held);
     w->answer = f.answer;
     w->figure = f.claims;
+#endif
 }
 static void c_claims(World *w) {
     w->answer = bench_claims(w->held.table, PURSES, &w->held.desk, &w->figure);
 }
 static void our_card(World *w) {
+#ifdef LENT
+    static const Order told = {START_FROM, {1}, {9}, {300}, {0, {{0}, {0}, {0}, {0}, {0}}}};
+    Name own = {0};
+    Handed handed = lent_card(&w->held.table[0], own, told);
+    w->answer = handed.answer;
+    w->card.message = handed.message;
+    w->card.entry = handed.entry;
+#else
     Name own = {0}, other = {1};
     Seq seq = {9};
     Amount amount = {300};
     w->card = timed_start_from(w->held.table[0], own, other, seq, amount);
     w->answer = w->card.answer;
     w->held.table[0] = w->card.purse;
+#endif
 }
 static void c_card(World *w) {
     static const CardEvent told = {START_FROM, {1}, {9}, {300}, {0, {{0}, {0}, {0}, {0}, {0}}}};
@@ -450,6 +497,11 @@ static void stack_all(void) {
         size_t most[2] = {0, 0};
         for (unsigned i = 0; i < EVENT_COUNT; i++) {
             event = EVENTS[i];
+            /* once before, so that no function of the C library is looked up on the painted stack */
+            ready(&ours);
+            ready(&plain);
+            CALLS[k].ours(&ours);
+            CALLS[k].plain(&plain);
             ready(&ours);
             ready(&plain);
             size_t a = depth(CALLS[k].ours, &ours), b = depth(CALLS[k].plain, &plain);
