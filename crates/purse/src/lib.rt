@@ -129,7 +129,11 @@ impl Message {
     pub fn same(self, other: Message) -> bool
         ensures { λ r. ⌜ r ≡ sameMessage self other ⌝ }
     {
-        (self.kind == other.kind) & self.details.same(other.details)
+        if self.details.same(other.details) {
+            self.kind == other.kind
+        } else {
+            false
+        }
     }
 }
 
