@@ -389,10 +389,10 @@ static void count_call(const Call *call, const char *label) {
         World *w = s ? &plain : &ours;
         for (unsigned turn = 0; turn < 2; turn++) {
             ready(w);
-            CALLGRIND_ZERO_STATS;
-            sides[s](w);
             snprintf(name, sizeof name, "%s %s %s", turn ? "count" : "first", label,
                      s ? "plain" : "ours");
+            CALLGRIND_ZERO_STATS;
+            sides[s](w);
             CALLGRIND_DUMP_STATS_AT(name);
         }
     }
