@@ -20,7 +20,11 @@ impl Entry {
     pub fn same(self, other: Entry) -> bool
         ensures { λ r. ⌜ r ≡ sameEntry self other ⌝ }
     {
-        (self.by.0 == other.by.0) & self.details.same(other.details)
+        if self.details.same(other.details) {
+            self.by.0 == other.by.0
+        } else {
+            false
+        }
     }
 }
 

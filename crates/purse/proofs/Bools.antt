@@ -16,6 +16,14 @@ and-r false b e = cc
 pub no-and : (a b : Bool) → a ≡ false → (a && b) ≡ false
 no-and a b e = simp e
 
+pub with-true : (a : Bool) → a ≡ (a && true)
+with-true true = refl
+with-true false = refl
+
+pub with-false : (a : Bool) → false ≡ (a && false)
+with-false true = refl
+with-false false = refl
+
 pub or-l : (a b : Bool) → (a || b) ≡ true → b ≡ false → a ≡ true
 or-l true b e f = refl
 or-l false b e f = cc

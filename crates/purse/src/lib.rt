@@ -99,15 +99,19 @@ impl Details {
         }
     }
 
-    // Whether two details agree in every field.
+    // Whether two details agree in every field. The payer's number is asked first, alone: it tells most payments apart.
     pub fn same(self, other: Details) -> bool
         ensures { λ r. ⌜ r ≡ sameDetails self other ⌝ }
     {
-        (self.payer.0 == other.payer.0)
-            & (self.payerseq.0 == other.payerseq.0)
-            & (self.payee.0 == other.payee.0)
-            & (self.payeeseq.0 == other.payeeseq.0)
-            & (self.amount.0 == other.amount.0)
+        if self.payerseq.0 == other.payerseq.0 {
+            (self.payer.0 == other.payer.0)
+                & (self.payerseq.0 == other.payerseq.0)
+                & (self.payee.0 == other.payee.0)
+                & (self.payeeseq.0 == other.payeeseq.0)
+                & (self.amount.0 == other.amount.0)
+        } else {
+            false
+        }
     }
 }
 
@@ -125,7 +129,11 @@ impl Message {
     pub fn same(self, other: Message) -> bool
         ensures { λ r. ⌜ r ≡ sameMessage self other ⌝ }
     {
-        (self.kind == other.kind) & self.details.same(other.details)
+        if self.details.same(other.details) {
+            self.kind == other.kind
+        } else {
+            false
+        }
     }
 }
 

@@ -7,11 +7,12 @@ use purse::Name;
 use purse::Purse;
 use refusals::form::is_named;
 ghost use mathlib.Core.Path.{_≡_};
+ghost use lib.Dec.{eqb};
 ghost use lib.ListN.{drop};
 ghost use Rattle.purse.specs.Lists.{all, distinct};
 ghost use Rattle.purse.specs.Details.{sameMessage};
 ghost use Rattle.rules.specs.Laid.{isZeroMessage};
-ghost use Rattle.table.specs.Records.{standing, messageAlone, etherAlone, payeeOk, payerOk, messageBeside};
+ghost use Rattle.table.specs.Records.{standing, messageAlone, etherAlone, when, payeeOk, payerOk, messageBeside};
 
 // A message's kind and what its details name.
 fn message_alone(m: Message, purses: u8) -> bool
@@ -95,11 +96,31 @@ fn payer_ok(p: Purse, m: Message) -> bool
         & !((2 <= m.kind) & ((p.status == 1) & d.same(p.details)))
 }
 
+// Asked only of a message to the purse, and only of one from it.
+fn to_purse(p: Purse, own: Name, m: Message) -> bool
+    ensures { λ r. ⌜ r ≡ when (eqb (m .details .payee .0) (own .0)) (payeeOk p m) ⌝ }
+{
+    if m.details.payee.0 == own.0 {
+        payee_ok(p, m)
+    } else {
+        true
+    }
+}
+
+fn from_purse(p: Purse, own: Name, m: Message) -> bool
+    ensures { λ r. ⌜ r ≡ when (eqb (m .details .payer .0) (own .0)) (payerOk p m) ⌝ }
+{
+    if m.details.payer.0 == own.0 {
+        payer_ok(p, m)
+    } else {
+        true
+    }
+}
+
 fn message_beside(p: Purse, own: Name, m: Message) -> bool
     ensures { λ r. ⌜ r ≡ messageBeside (own .0) p m ⌝ }
 {
-    (!(m.details.payee.0 == own.0) | payee_ok(p, m))
-        & (!(m.details.payer.0 == own.0) | payer_ok(p, m))
+    to_purse(p, own, m) & from_purse(p, own, m)
 }
 
 pub fn each_beside(e: Ether, p: Purse, own: Name) -> bool
