@@ -54,8 +54,8 @@ pub fn place_of(event: Event) -> usize
 fn start_number(desk: Desk, own: Name, other: Name) -> u8
     ensures { λ r. ⌜ r ≡ first (startTests desk own other) ⌝ }
 {
-    let n = tested(0, desk.purses <= own.0, 4);
-    let n = tested(n, desk.purses <= other.0, 6);
+    let n = tested(0, desk.purses <= own.0, 4); // the purse first
+    let n = tested(n, desk.purses <= other.0, 6); // then its counterparty
     n
 }
 
