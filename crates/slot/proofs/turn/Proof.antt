@@ -2,15 +2,12 @@ use borrow.Author.Needs.{needs}
 use Rattle.slot.proofs.turn.Statement.{statement}
 use Rattle.slot.proofs.turn.Tie as tie
 
--- src/lib.rt:64:22
 told-requires : tie.Need-told-requires
 told-requires c κs = search needs
 
--- src/lib.rt:64:5
 step-requires : tie.Need-step-requires
 step-requires c κs = search needs
 
--- src/lib.rt:61:1
 returns : tie.Need-returns
 returns c = cc
 
