@@ -27,9 +27,13 @@ fn each(held: Held, input: &[u8], answers: &mut [u8], n: usize) -> Held
         let at = 12 * i;
         let end = at + 12;
         let a = by_record(h, &input[at..end]);
-        answers[i] = a.answer;
-        let next = a.held;
-        h = next;
+        let answer = a.answer;
+        answers[i] = answer;
+        // from 2 up nothing has changed
+        if answer < 2 {
+            let next = a.held;
+            h = next;
+        }
         i += 1;
     }
     h

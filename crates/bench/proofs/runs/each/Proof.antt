@@ -1,11 +1,12 @@
 -- `bench::runs::each` meets its contract: the loop's invariant is `Going`: the run so far, and the pieces that are left.
 -- Assumes nothing.
-use Rattle.bench.proofs.Filling.{Going, going-start, going-on, going-end}
+use Rattle.bench.proofs.Filling.{Going, going-start, going-on, going-past, going-end}
 use Rattle.bench.specs.Acts.{byRecord}
 use Rattle.rules.specs.Events.{decoded}
 use lib.ListN.{take, drop}
 use Prim.Native.Nat.{ℕ, _+_, _*_, _-_}
 use mathlib.Core.Path.{_≡_, _∙_, ap}
+use mathlib.Core.Logic.{⊎-elim}
 use native.Mathlib.Omega.{arith}
 use borrow.Author.Needs.{needs}
 use Rattle.bench.proofs.runs.each.Statement.{statement}
@@ -49,16 +50,20 @@ loop-less c = search needs
 
 loop-again : tie.Need-loop-again Inv-loop μ-loop
 loop-again c =
-    let at-loop = c .before .before .before .before in
+    let turn = c .before in
+    let at-loop = turn .before .before .before in
     let start = at-loop .before .before .before in
     let i = at-loop .loop .i in
+    let h = at-loop .loop .h in
+    let input = start .args .input .now in
     let twelve : 12 * i + 12 - 12 * i ≡ 12 = omega arith in
-    let said : c .before .by-record .result ≡ byRecord (at-loop .loop .h) (decoded (take 12 (drop (12 * i) (start .args .input .now)))) =
-    c .before .by-record .ensures
-    ∙ ap (λ (k : ℕ). byRecord (at-loop .loop .h) (decoded (take k (drop (12 * i) (start .args .input .now))))) twelve
+    let said : turn .by-record .result ≡ byRecord h (decoded (take 12 (drop (12 * i) input))) =
+    turn .by-record .ensures ∙ ap (λ (k : ℕ). byRecord h (decoded (take k (drop (12 * i) input)))) twelve
     in
-    going-on (start .args .held) (at-loop .loop .h) (start .args .input .now) (start .args .answers .now) (at-loop .loop .answers) (start .args .n) i (c .before .by-record .result)
-    (omega arith) (start .pre .2) said (at-loop .loop .inv)
+    ⊎-elim
+    (λ w. rw (w .2) (going-on _ h input _ (at-loop .loop .answers) _ i _ (omega arith) (start .pre .2) said (at-loop .loop .inv)))
+    (λ w. rw (w .1) (going-past _ h input _ (at-loop .loop .answers) _ i _ (omega arith) (start .pre .2) said (w .0 .left) (at-loop .loop .inv)))
+    (c .if1 .came)
 
 same-length : tie.Need-same-length Inv-loop μ-loop
 same-length c = search needs
