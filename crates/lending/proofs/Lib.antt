@@ -1,2 +1,3 @@
 mod Structs
 mod Calls
+pub mod Unique

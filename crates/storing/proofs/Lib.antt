@@ -1,2 +1,3 @@
 mod Calls
 mod Whole
+pub mod Unique
