@@ -2,3 +2,5 @@ pub mod Puts
 pub mod Digits
 pub mod Opened
 pub mod Cuts
+pub mod Whole
+pub mod Worked

@@ -49,7 +49,7 @@ pub text-more : {l l₁ : List ℕ} {at j : ℕ} (text : List ℕ) (i : ℕ) →
 text-more {l} {l₁} {at} {j} text i h p = rw (add-one i, take-suc text i 0 h) (then p (put-one l₁ j (getD text i 0)))
 
 module _ {A : Type 0} (line : ℕ → A → List ℕ) where
-  numbered-append : (k : ℕ) (xs ys : List A) → numbered line k (xs ++ ys) ≡ numbered line k xs ++ numbered line (k + length xs) ys
+  pub numbered-append : (k : ℕ) (xs ys : List A) → numbered line k (xs ++ ys) ≡ numbered line k xs ++ numbered line (k + length xs) ys
   unfolding numbered
   numbered-append k [] ys = rw add-zero
   numbered-append k (x ∷ xs) ys =
