@@ -2,7 +2,7 @@
 use Prim.Native.Nat.{ℕ, _+_, _*_, _/_}
 use mathlib.Core.Bool.{Bool, cond}
 use mathlib.Core.List.{List, [], _∷_, _++_}
-use lib.ListN.{length, drop, getD, replicate}
+use lib.ListN.{length, take, drop, getD, replicate}
 use lib.Dec.{eqb}
 use Rattle.purse.specs.Purse.{zeroPurse}
 use Rattle.desk.specs.declared.Held.{Held}
@@ -13,13 +13,16 @@ use Rattle.listing.specs.Listing.{headerLine, openingLine, footOf}
 use Rattle.listing.specs.Opening.{balanceBytes, balancesIn}
 use Rattle.listing.specs.Piece.{eventsIn, pieceLines}
 
--- what opening makes of the input's first bytes; it ignores what the table held
-abbrev pub openedBy : List ℕ → Answered
-openedBy l = heldOpening (record { table = replicate 32 zeroPurse; desk = openedDesk 0 }) (balancesIn l)
-
 -- "purse count, 4 bytes a balance, then events"
+abbrev pub openingBytes : List ℕ → List ℕ
+openingBytes l = take (1 + balanceBytes (getD l 0 0)) l
+
 abbrev pub eventBytes : List ℕ → List ℕ
 eventBytes l = drop (1 + balanceBytes (getD l 0 0)) l
+
+-- what opening makes of the balances; it ignores what the table held
+abbrev pub openedBy : List ℕ → Answered
+openedBy l = heldOpening (record { table = replicate 32 zeroPurse; desk = openedDesk 0 }) (balancesIn l)
 
 -- event lines from event 1 on, purse lines, the last line
 abbrev pub benchLines : Held → List ℕ → List ℕ
@@ -47,3 +50,7 @@ heldAfter h (l ∷ ls) = heldAfter (heldRun h (eventsIn l)) ls
 abbrev pub joined : List (List ℕ) → List ℕ
 joined [] = []
 joined (l ∷ ls) = l ++ joined ls
+
+-- the same listing where the events come in pieces, after what opening answered
+abbrev pub inPieces : Answered → List (List ℕ) → List ℕ
+inPieces a ls = headerLine ++ cond (eqb (a .answer) 0) (linesOf (a .held) 1 ls ++ footOf (heldAfter (a .held) ls)) (openingLine (a .answer))
