@@ -3,7 +3,9 @@
 
 Each vector is an input in the words of examples/README.md and the answers that document 01 gives
 it, worked out by hand; `..` at the front stands for answers not written out. The vectors and the
-examples are kept as files: tests/vectors/NAME.in and NAME.out, examples/NAME.txt and NAME.out.
+examples are kept as files: tests/vectors/NAME.in and NAME.out, examples/NAME.txt and NAME.out. The
+program of crates/vectors runs the same inputs in the gate: it has copies of its own (data/, args,
+stdout), since it is run outside the repository.
 
     vectors.py             checks the files against the answers below and against the model
     vectors.py --write     writes the files anew
@@ -13,8 +15,10 @@ examples.sh runs the program on them.
 
 import argparse
 
-from common import EXAMPLES, VECTORS, finish, words
+from common import EXAMPLES, ROOT, VECTORS, finish, words
 import model
+
+GATE = ROOT / "crates" / "vectors"
 
 LISTING = """
 open 1000 200
@@ -333,6 +337,15 @@ def all_vectors():
         yield path.stem, words.text_bytes(path.read_text()), path.with_suffix(".out"), None
 
 
+def gate_files():
+    """The files of crates/vectors that the vectors give, path and content."""
+    names = sorted(VECTORS_MADE)
+    for name in names:
+        yield GATE / "data" / name, (VECTORS / f"{name}.in").read_bytes()
+    yield GATE / "args", "".join(f"{name}\n" for name in names).encode()
+    yield GATE / "stdout", b"".join((VECTORS / f"{name}.out").read_bytes() for name in names)
+
+
 def write_all():
     VECTORS.mkdir(exist_ok=True)
     for old in VECTORS.iterdir():
@@ -341,6 +354,10 @@ def write_all():
         if answers is not None:
             (VECTORS / f"{name}.in").write_bytes(data)
         listing.write_bytes(model.program(data))
+    for old in (GATE / "data").iterdir():
+        old.unlink()
+    for path, content in gate_files():
+        path.write_bytes(content)
 
 
 def wrong(name, data, listing, answers):
@@ -371,6 +388,13 @@ def main():
         else:
             failed += 1
             print(f"{name}: {fault}")
+    known = dict(gate_files())
+    for path in sorted({*known, *(GATE / "data").iterdir()}):
+        if path.is_file() and known.get(path) == path.read_bytes():
+            passed += 1
+        else:
+            failed += 1
+            print(f"{path.relative_to(ROOT)}: not what tests/vectors has; vectors.py --write writes it anew")
     finish(passed, failed)
 
 
