@@ -4,15 +4,16 @@ use desk::Desk;
 use desk::Held;
 use purse::Purse;
 
-pub mod acts; // acts.rt: what an event does at one record and the desk
-pub mod events; // events.rt: an event's bytes read
-pub mod open; // open.rt: a bench opened
-pub mod owed; // owed.rt: the claims figure
-pub mod runs; // runs.rt: many events
-pub mod step; // step.rt: an event at the whole bench
+mod acts; // acts.rt: what an event does at one record and the desk
+mod events; // events.rt: an event's bytes read
+mod open; // open.rt: a bench opened
+mod owed; // owed.rt: the claims figure
+mod runs; // runs.rt: many events
+mod step; // step.rt: an event at the whole bench
 
 pub use acts::act;
 pub use acts::place_of;
+pub use events::decode;
 pub use open::opening;
 pub use owed::claims;
 pub use runs::run;

@@ -1,9 +1,9 @@
 // The card: one purse record and its step. Told its own name, a card takes a start, a message, an abort or a collect, and gives the
 // answer's number, the record and what it hands out. It knows nothing of a bench.
-pub mod answers; // answers.rt: refused, done
-pub mod starts; // starts.rt: start-from and start-to
-pub mod delivery; // delivery.rt: a message
-pub mod records; // records.rt: the exception log's steps, abort and collect
+mod answers; // answers.rt: refused, done
+mod starts; // starts.rt: start-from and start-to
+mod delivery; // delivery.rt: a message
+mod records; // records.rt: the exception log's steps, abort and collect
 
 use purse::CardAnswer;
 use purse::CardEvent;

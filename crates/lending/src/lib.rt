@@ -15,7 +15,7 @@ ghost use mathlib.Core.Path.{_≡_};
 ghost use Rattle.rules.specs.Laid.{heldStep, heldOpening, heldClaims};
 ghost use Rattle.records.specs.Lent.{held, replyOf};
 
-pub mod steps; // steps.rt: the bench's steps by value, as the entries call them
+mod steps; // steps.rt: the bench's steps by value, as the entries call them
 
 // An event.
 #[no_mangle]

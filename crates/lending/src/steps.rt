@@ -2,7 +2,7 @@
 use bench::Acted;
 use bench::act;
 use bench::claims;
-use bench::events::decode;
+use bench::decode;
 use bench::opening;
 use bench::place_of;
 use desk::Answered;

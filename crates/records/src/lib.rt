@@ -35,7 +35,7 @@ pub fn table_ok(table: &[Purse], desk: Desk) -> bool
 }
 
 // A table of unused records.
-pub fn unused() -> [Purse; 32]
+fn unused() -> [Purse; 32]
     ensures { λ r. ⌜ r ≡ replicate 32 zeroPurse ⌝ }
 {
     let z = Purse::zero();
@@ -59,7 +59,7 @@ pub fn copied(table: &[Purse]) -> [Purse; 32]
 }
 
 // The table of what was answered.
-pub fn table_of(by: Answered) -> [Purse; 32]
+fn table_of(by: Answered) -> [Purse; 32]
     ensures { λ r. ⌜ r ≡ by .held .table ⌝ }
 {
     let held = by.held;

@@ -31,7 +31,7 @@ pub struct Handed {
     pub entry: Details,
 }
 
-pub fn told(order: Order) -> CardEvent
+fn told(order: Order) -> CardEvent
     ensures { λ r. ⌜ r ≡ toldOf order ⌝ }
 {
     let kind = order.kind;
@@ -57,7 +57,7 @@ pub fn told(order: Order) -> CardEvent
 }
 
 // A turn of the card, by value.
-pub fn turn(purse: Purse, own: Name, order: Order) -> CardAnswer
+fn turn(purse: Purse, own: Name, order: Order) -> CardAnswer
     ensures { λ r. ⌜ r ≡ stepBy purse own (toldOf order) ⌝ }
 {
     step(purse, own, told(order))

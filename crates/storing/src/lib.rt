@@ -11,7 +11,7 @@ ghost use mathlib.Core.Path.{_≡_};
 ghost use Rattle.layout.specs.Calls.{heldWrite, heldBuffer, heldRead};
 ghost use Rattle.records.specs.Lent.{held, replyOf};
 
-pub mod steps; // steps.rt: an image written and read by value, as the entries call it
+mod steps; // steps.rt: an image written and read by value, as the entries call it
 
 // The image of the bench, at the start of a buffer.
 #[no_mangle]
