@@ -1,3 +1,5 @@
+-- `desk::Ether::add` meets its contract: below 256 the message stands at the end; where 256 stand the ether is as it was (`as-it-was`).
+-- Assumes nothing.
 use mathlib.Core.Path.{_≡_}
 use mathlib.Core.Bool.{true}
 use Prim.Native.Nat.{_≤_}
