@@ -9,7 +9,7 @@ step-requires : tie.Need-step-requires
 step-requires c κs = search needs
 
 returns : tie.Need-returns
-returns c = cc
+returns c = rw (c .before .told .ensures) at (c .step .ensures)
 
 pub turn-spec : {M : Type 1} → statement M
 turn-spec = tie.close (tie.spec told-requires step-requires returns)

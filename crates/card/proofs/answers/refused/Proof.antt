@@ -10,7 +10,7 @@ zero-requires-2 : tie.Need-zero-requires-2
 zero-requires-2 c κs = search needs
 
 returns : tie.Need-returns
-returns c = cc
+returns c = rw (c .before .zero .ensures, c .zero2 .ensures)
 
 pub refused-spec : {M : Type 1} → statement M
 refused-spec = tie.close (tie.spec zero-requires zero-requires-2 returns)

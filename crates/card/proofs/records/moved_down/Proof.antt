@@ -38,7 +38,7 @@ long c = search (needs, unmapped)
 
 returns : tie.Need-returns
 returns c =
-    cc
+    rw (c .before .before .before .before .before .before .before .zero .ensures)
     (moved (c .before .before .before .before .before .before .before .before .args .t1) zeroDetails (long (c .before .before .before .before .before .before .before .before)))
 
 pub moved-down-spec : {M : Type 1} → statement M

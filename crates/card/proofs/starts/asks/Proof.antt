@@ -10,7 +10,7 @@ sends-requires : tie.Need-sends-requires
 sends-requires c κs = search needs
 
 returns : tie.Need-returns
-returns c = cc
+returns c = rw (c .before .begun .ensures) at (c .sends .ensures)
 
 pub asks-spec : {M : Type 1} → statement M
 asks-spec = tie.close (tie.spec begun-requires sends-requires returns)

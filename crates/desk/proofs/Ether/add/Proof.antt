@@ -1,8 +1,20 @@
+-- `desk::Ether::add` meets its contract: below 256 the message stands at the end; where 256 stand the ether is as it was (`as-it-was`).
+-- Assumes nothing.
+use mathlib.Core.Path.{_≡_}
+use mathlib.Core.Bool.{true}
+use Prim.Native.Nat.{_≤_}
 use borrow.Author.Tests.{lt-ltb, le-ltb}
+use Rattle.purse.specs.declared.Message.{Message}
+use Rattle.desk.specs.declared.Ether.{Ether}
 use Rattle.desk.specs.Desk.{added}
 use borrow.Author.Needs.{needs}
 use Rattle.desk.proofs.Ether.add.Statement.{statement}
 use Rattle.desk.proofs.Ether.add.Tie as tie
+
+-- where 256 messages stand, the ether stays as it was
+as-it-was : (e : Ether) (m : Message) → 256 ≤ e .count → record { ether = e; lost = true } ≡ added e m
+unfolding added
+as-it-was e m h = rw (le-ltb _ _ h)
 
 cast-at : tie.Need-cast-at
 cast-at c = search needs
@@ -21,8 +33,7 @@ unfolding added
 returns c = rw (lt-ltb _ _ (c .if1 .taken))
 
 returns-2 : tie.Need-returns-2
-unfolding added
-returns-2 c = rw (le-ltb _ _ (c .if1 .left))
+returns-2 c = search (needs, as-it-was)
 
 pub add-spec : {M : Type 1} → statement M
 add-spec = tie.close (tie.spec cast-at mul-m element-set-from-m add-next returns returns-2)

@@ -24,7 +24,7 @@ apart a b e =
 
 returns : tie.Need-returns
 unfolding sameDetails
-returns c = cc
+returns c = refl
 
 returns-2 : tie.Need-returns-2
 returns-2 c = apart _ _ (ne-eqb _ _ (c .if1 .left))

@@ -9,7 +9,7 @@ is-legal-requires c κs = search needs
 
 returns : tie.Need-returns
 unfolding named
-returns c = cc
+returns c = rw (c .is-legal .ensures)
 
 pub is-named-spec : {M : Type 1} → statement M
 is-named-spec = tie.close (tie.spec is-legal-requires returns)

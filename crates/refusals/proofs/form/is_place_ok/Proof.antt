@@ -30,7 +30,8 @@ same-requires-2 c κs = search needs
 
 returns : tie.Need-returns
 unfolding placeOk
-returns c = cc
+returns c =
+    rw (c .same2 .ensures, c .before .zero .ensures, c .before .before .is-absent .ensures, c .before .before .before .same .ensures, c .before .before .before .before .is-entry .ensures)
 
 pub is-place-ok-spec : {M : Type 1} → statement M
 is-place-ok-spec =

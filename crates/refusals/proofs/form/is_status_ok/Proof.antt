@@ -40,26 +40,22 @@ is-payer-requires-2 c κs = search needs
 returns : tie.Need-returns
 returns c =
     simp
-    (at-idle (c .before .before .before .before .before .before .before .before .args .own) (c .before .before .before .before .before .before .before .before .args .p) (c .before .before .match .keys1))
-    cc
+    (at-idle (c .before .before .before .before .before .before .before .before .args .own) (c .before .before .before .before .before .before .before .before .args .p) (c .before .before .match .keys1), c .same .ensures, c .before .zero .ensures)
 
 returns-2 : tie.Need-returns-2
 returns-2 c =
     simp
-    (at-epr (c .before .before .before .before .before .before .before .before .before .args .own) (c .before .before .before .before .before .before .before .before .before .args .p) (c .before .before .before .match .keys2))
-    cc
+    (at-epr (c .before .before .before .before .before .before .before .before .before .args .own) (c .before .before .before .before .before .before .before .before .before .args .p) (c .before .before .before .match .keys2), c .before .before .before .before .before .is-named .ensures, c .is-payer .ensures)
 
 returns-3 : tie.Need-returns-3
 returns-3 c =
     simp
-    (at-epv (c .before .before .before .before .before .before .before .before .before .args .own) (c .before .before .before .before .before .before .before .before .before .args .p) (c .before .before .before .match .keys3))
-    cc
+    (at-epv (c .before .before .before .before .before .before .before .before .before .args .own) (c .before .before .before .before .before .before .before .before .before .args .p) (c .before .before .before .match .keys3), c .before .before .before .before .before .is-named .ensures, c .before .before .before .before .before .before .ceiling .ensures, c .is-payee .ensures)
 
 returns-4 : tie.Need-returns-4
 returns-4 c =
     simp
-    (at-epa (c .before .before .before .before .before .before .before .args .own) (c .before .before .before .before .before .before .before .args .p) (c .before .match .keys4))
-    cc
+    (at-epa (c .before .before .before .before .before .before .before .args .own) (c .before .before .before .before .before .before .before .args .p) (c .before .match .keys4), c .before .before .before .is-named .ensures, c .is-payer2 .ensures)
 
 returns-5 : tie.Need-returns-5
 returns-5 c =

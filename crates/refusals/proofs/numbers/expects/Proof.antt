@@ -10,13 +10,13 @@ same-requires : tie.Need-same-requires
 same-requires c κs = search needs
 
 returns : tie.Need-returns
-returns c = simp (of-request (c .before .before .before .args .p) (c .before .before .before .args .m) (c .before .match .keys1)) cc
+returns c = simp (of-request (c .before .before .before .args .p) (c .before .before .before .args .m) (c .before .match .keys1), c .before .before .same .ensures)
 
 returns-2 : tie.Need-returns-2
-returns-2 c = simp (of-value (c .before .before .before .args .p) (c .before .before .before .args .m) (c .before .match .keys2)) cc
+returns-2 c = simp (of-value (c .before .before .before .args .p) (c .before .before .before .args .m) (c .before .match .keys2), c .before .before .same .ensures)
 
 returns-3 : tie.Need-returns-3
-returns-3 c = simp (of-acknowledge (c .before .before .before .args .p) (c .before .before .before .args .m) (c .before .match .keys3)) cc
+returns-3 c = simp (of-acknowledge (c .before .before .before .args .p) (c .before .before .before .args .m) (c .before .match .keys3), c .before .before .same .ensures)
 
 returns-4 : tie.Need-returns-4
 returns-4 c =
