@@ -1,5 +1,7 @@
 pub mod Examples
 pub mod Coded
+pub mod Puts
+pub mod Gets
 pub mod Records
 pub mod Firsts
 pub mod Heads

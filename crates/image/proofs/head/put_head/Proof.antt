@@ -2,7 +2,7 @@
 -- Assumes nothing.
 use native.Mathlib.Omega.{arith}
 use Rattle.layout.specs.Bytes.{big}
-use Rattle.image.proofs.Puts.{then-put}
+use Rattle.layout.proofs.Puts.{then-put}
 use Rattle.layout.specs.Head.{headBytes}
 use borrow.Author.Needs.{needs}
 use Rattle.image.proofs.head.put_head.Statement.{statement}

@@ -6,7 +6,7 @@ use mathlib.Core.Path.{_≡_, refl}
 use lib.ListN.{length, length-set}
 use Rattle.layout.specs.Bytes.{numberAt}
 use Rattle.layout.proofs.Coded.{length-many}
-use Rattle.image.proofs.Gets.{Filled, filled-none, filled-more, filled-all}
+use Rattle.layout.proofs.Gets.{Filled, filled-none, filled-more, filled-all}
 use borrow.Author.Needs.{needs}
 use Rattle.listing.proofs.input.balances.Statement.{statement}
 use Rattle.listing.proofs.input.balances.Tie as tie
