@@ -7,7 +7,7 @@ ghost use mathlib.Core.Path.{_≡_};
 ghost use Prim.Native.Nat.{_≤_, _<_};
 ghost use lib.ListN.{length};
 ghost use Rattle.purse.specs.Tests.{first};
-ghost use Rattle.layout.specs.Bytes.{put};
+ghost use Rattle.bytes.specs.Bytes.{put};
 ghost use Rattle.layout.specs.Head.{headBytes, headTests, imageLength};
 
 pub const VERSION: u16 = 1;

@@ -18,7 +18,7 @@ ghost use Rattle.purse.specs.Details.{zeroMessage};
 ghost use Rattle.purse.specs.Purse.{zeroPurse};
 ghost use Rattle.purse.specs.Tests.{first};
 ghost use Rattle.desk.specs.Desk.{zeroEntry};
-ghost use Rattle.layout.specs.Bytes.{many};
+ghost use Rattle.bytes.specs.Bytes.{many};
 ghost use Rattle.layout.specs.Records.{purseAt, messageAt, entryAt};
 ghost use Rattle.layout.specs.Head.{headTests};
 ghost use Rattle.layout.specs.Image.{benchIn};

@@ -1,7 +1,7 @@
 // The records of an image: details, a log, a purse, a message, an archive entry, each at a place of the bytes.
-use crate::numbers::get_number;
 use crate::numbers::put_byte;
 use crate::numbers::put_number;
+use bytes::number_at;
 use desk::Entry;
 use purse::Amount;
 use purse::Details;
@@ -12,7 +12,7 @@ use purse::Seq;
 ghost use mathlib.Core.Path.{_≡_};
 ghost use Prim.Native.Nat.{_+_, _≤_};
 ghost use lib.ListN.{length};
-ghost use Rattle.layout.specs.Bytes.{put};
+ghost use Rattle.bytes.specs.Bytes.{put};
 ghost use Rattle.layout.specs.Records.{detailsBytes, detailsAt, logBytes, logAt, purseBytes, purseAt, messageBytes, messageAt, entryBytes, entryAt};
 
 pub fn put_details(out: &mut [u8], at: usize, d: Details) -> usize
@@ -31,10 +31,10 @@ pub fn get_details(s: &[u8], at: usize) -> Details
     ensures { λ r. ⌜ r ≡ detailsAt (now (s .entry)) at ⌝ }
 {
     let payer = Name(s[at]);
-    let payerseq = Seq(get_number(s, at + 1));
+    let payerseq = Seq(number_at(s, at + 1));
     let payee = Name(s[at + 5]);
-    let payeeseq = Seq(get_number(s, at + 6));
-    let amount = Amount(get_number(s, at + 10));
+    let payeeseq = Seq(number_at(s, at + 6));
+    let amount = Amount(number_at(s, at + 10));
     Details {
         payer: payer,
         payerseq: payerseq,
@@ -94,8 +94,8 @@ pub fn get_purse(s: &[u8], at: usize) -> Purse
     requires { ⌜ at + 136 ≤ length (now s) ⌝ }
     ensures { λ r. ⌜ r ≡ purseAt (now (s .entry)) at ⌝ }
 {
-    let balance = Amount(get_number(s, at));
-    let next = Seq(get_number(s, at + 4));
+    let balance = Amount(number_at(s, at));
+    let next = Seq(number_at(s, at + 4));
     let status = s[at + 8];
     let logged = s[at + 9];
     let details = get_details(s, at + 10);

@@ -1,7 +1,4 @@
 pub mod Examples
-pub mod Coded
-pub mod Puts
-pub mod Gets
 pub mod Records
 pub mod Firsts
 pub mod Heads

@@ -10,7 +10,7 @@ use Rattle.purse.specs.declared.Purse.{Purse}
 use Rattle.desk.specs.declared.Entry.{Entry}
 use Rattle.layout.specs.Records.{detailsBytes, detailsAt, purseBytes, purseAt, messageBytes, messageAt, entryBytes, entryAt}
 use Rattle.layout.specs.Fits.{FitDetails, FitPurse, FitMessage, FitEntry}
-use Rattle.layout.proofs.Coded.{Coded, Any, any-all, byte-coded, number-coded, pair-coded, held-coded, many-coded}
+use Rattle.bytes.proofs.Coded.{Coded, Any, any-all, byte-coded, number-coded, pair-coded, held-coded, many-coded}
 
 pub details-coded : Coded detailsBytes detailsAt 14 Any FitDetails
 unfolding detailsBytes detailsAt

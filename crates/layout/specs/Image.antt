@@ -2,8 +2,8 @@
 use Prim.Native.Nat.{ℕ, _+_, _*_}
 use mathlib.Core.List.{List, _++_}
 use lib.ListN.{length}
-use Rattle.layout.specs.Bytes.{flat, many}
-use Rattle.layout.specs.Fits.{All, FitPurse, FitMessage, FitEntry}
+use Rattle.bytes.specs.Bytes.{All, flat, many}
+use Rattle.layout.specs.Fits.{FitPurse, FitMessage, FitEntry}
 use Rattle.layout.specs.Records.{purseBytes, purseAt, messageBytes, messageAt, entryBytes, entryAt}
 use Rattle.desk.specs.declared.Held.{Held}
 use Rattle.rules.specs.Bench.{Bench}

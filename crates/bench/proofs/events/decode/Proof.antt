@@ -17,11 +17,11 @@ returns-2 : tie.Need-returns-2
 unfolding decoded
 returns-2 c = simp (eq-eqb _ 12 (c .before .before .if1 .left), ne-eqb _ 0 (c .if2 .taken))
 
-number-requires : tie.Need-number-requires
-number-requires c κs = search needs
+number-at-requires : tie.Need-number-at-requires
+number-at-requires c κs = search needs
 
-number-requires-2 : tie.Need-number-requires-2
-number-requires-2 c κs = search needs
+number-at-requires-2 : tie.Need-number-at-requires-2
+number-at-requires-2 c κs = search needs
 
 shared-slice-read-fields : tie.Need-shared-slice-read-fields
 shared-slice-read-fields c = search needs
@@ -48,8 +48,8 @@ decode-spec =
     returns
     shared-slice-read-if2
     returns-2
-    number-requires
-    number-requires-2
+    number-at-requires
+    number-at-requires-2
     shared-slice-read-fields
     shared-slice-read-fields-2
     shared-slice-read-fields-3

@@ -4,7 +4,7 @@ use Prim.Native.Nat.{_≤_, _-_}
 use native.Mathlib.Omega.{arith}
 use Rattle.purse.specs.Purse.{zeroPurse}
 use Rattle.layout.specs.Records.{purseAt}
-use Rattle.layout.proofs.Gets.{Filled, filled-none, filled-more, filled-all}
+use Rattle.bytes.proofs.Gets.{Filled, filled-none, filled-more, filled-all}
 use borrow.Author.Needs.{needs}
 use Rattle.image.proofs.reading.get_purses.Statement.{statement}
 use Rattle.image.proofs.reading.get_purses.Tie as tie

@@ -5,14 +5,14 @@ use borrow.Author.Needs.{needs}
 use Rattle.image.proofs.records.get_purse.Statement.{statement}
 use Rattle.image.proofs.records.get_purse.Tie as tie
 
-get-number-requires : tie.Need-get-number-requires
-get-number-requires c κs = search needs
+number-at-requires : tie.Need-number-at-requires
+number-at-requires c κs = search needs
 
-add-get-number : tie.Need-add-get-number
-add-get-number c = search needs
+add-number-at : tie.Need-add-number-at
+add-number-at c = search needs
 
-get-number-requires-2 : tie.Need-get-number-requires-2
-get-number-requires-2 c κs = search needs
+number-at-requires-2 : tie.Need-number-at-requires-2
+number-at-requires-2 c κs = search needs
 
 add-status : tie.Need-add-status
 add-status c = search needs
@@ -46,9 +46,9 @@ pub get-purse-spec : {M : Type 1} → statement M
 get-purse-spec =
     tie.close
     (tie.spec
-    get-number-requires
-    add-get-number
-    get-number-requires-2
+    number-at-requires
+    add-number-at
+    number-at-requires-2
     add-status
     shared-slice-read-status
     add-logged

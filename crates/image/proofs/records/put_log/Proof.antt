@@ -7,7 +7,7 @@ use lib.Seq.{take-all}
 use native.Mathlib.Omega.{arith}
 use Rattle.purse.specs.Details.{zeroDetails}
 use Rattle.layout.specs.Records.{detailsBytes}
-use Rattle.layout.proofs.Puts.{Wrote, wrote-none, wrote-more, wrote-all}
+use Rattle.bytes.proofs.Puts.{Wrote, wrote-none, wrote-more, wrote-all}
 use borrow.Author.Needs.{needs}
 use Rattle.image.proofs.records.put_log.Statement.{statement}
 use Rattle.image.proofs.records.put_log.Tie as tie

@@ -1,6 +1,6 @@
 -- Bytes: a number written with its highest byte first and read back, over the width; a list's elements one after the other; a buffer with
 -- other bytes from a place on.
-use Prim.Native.Nat.{ℕ, zero, suc, _+_, _*_, _/_, _%_}
+use Prim.Native.Nat.{ℕ, zero, suc, _+_, _*_, _/_, _%_, _<_}
 use mathlib.Core.List.{List, [], _∷_, _++_}
 use lib.ListN.{getD}
 use lib.Seq.{sets}
@@ -30,6 +30,15 @@ numberAt (suc w) l at = numberAt w l at * 256 + getD l (at + w) 0
 abbrev pub room : ℕ → ℕ
 room zero = 1
 room (suc w) = room w * 256
+
+-- a number that w bytes can spell
+abbrev pub Below : ℕ → ℕ → Type 0
+Below w n = n < room w
+
+-- each element of a list has a property
+abbrev pub All : {A : Type 0} → (A → Type 0) → List A → Type 0
+All P [] = Unit
+All P (x ∷ xs) = P x × All P xs
 
 -- the bytes of each of a list, one after the other
 unfoldable pub flat : {A : Type 0} → (A → List ℕ) → List A → List ℕ
