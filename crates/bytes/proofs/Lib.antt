@@ -1,4 +1,4 @@
 pub mod Coded
-pub mod Past
+pub mod Numbers
 pub mod Puts
 pub mod Gets

@@ -1,37 +1,56 @@
--- `bytes::number_at` meets its contract. Its sum is that of the definition, byte by byte; each is below 256, so the sum fits.
+-- `bytes::number_at` meets its contract. Where the four bytes are there its sum is that of the definition, byte by byte; each is below 256,
+-- so the sum fits.
 -- Assumes nothing.
-use mathlib.Core.Path.{sym}
 use native.Mathlib.Omega.{arith}
 use native.Mathlib.Nat.{add-zero}
+use mathlib.Core.Path.{sym, _∙_}
 use Rattle.bytes.specs.Bytes.{numberAt}
-use Rattle.bytes.proofs.Past.{number-past}
+use Rattle.bytes.proofs.Numbers.{number-there, number-missing}
 use borrow.Author.Needs.{needs}
 use Rattle.bytes.proofs.number_at.Statement.{statement}
 use Rattle.bytes.proofs.number_at.Tie as tie
 
 returns : tie.Need-returns
-returns c = sym (number-past 4 _ _ (omega arith))
+returns c = sym (number-missing _ _ (omega arith))
 
-wide-at-requires : tie.Need-wide-at-requires
-wide-at-requires c κs = search needs
+sub-if2 : tie.Need-sub-if2
+sub-if2 c = search needs
 
-add-wide-at : tie.Need-add-wide-at
-add-wide-at c = search needs
+returns-2 : tie.Need-returns-2
+returns-2 c = sym (number-missing _ _ (omega arith))
 
-wide-at-requires-2 : tie.Need-wide-at-requires-2
-wide-at-requires-2 c κs = search needs
+shared-slice-read-wide : tie.Need-shared-slice-read-wide
+shared-slice-read-wide c = search needs
 
-add-wide-at-2 : tie.Need-add-wide-at-2
-add-wide-at-2 c = search needs
+wide-requires : tie.Need-wide-requires
+wide-requires c κs = search needs
 
-wide-at-requires-3 : tie.Need-wide-at-requires-3
-wide-at-requires-3 c κs = search needs
+add-wide : tie.Need-add-wide
+add-wide c = search needs
 
-add-wide-at-3 : tie.Need-add-wide-at-3
-add-wide-at-3 c = search needs
+shared-slice-read-wide-2 : tie.Need-shared-slice-read-wide-2
+shared-slice-read-wide-2 c = search needs
 
-wide-at-requires-4 : tie.Need-wide-at-requires-4
-wide-at-requires-4 c κs = search needs
+wide-requires-2 : tie.Need-wide-requires-2
+wide-requires-2 c κs = search needs
+
+add-wide-2 : tie.Need-add-wide-2
+add-wide-2 c = search needs
+
+shared-slice-read-wide-3 : tie.Need-shared-slice-read-wide-3
+shared-slice-read-wide-3 c = search needs
+
+wide-requires-3 : tie.Need-wide-requires-3
+wide-requires-3 c κs = search needs
+
+add-wide-3 : tie.Need-add-wide-3
+add-wide-3 c = search needs
+
+shared-slice-read-wide-4 : tie.Need-shared-slice-read-wide-4
+shared-slice-read-wide-4 c = search needs
+
+wide-requires-4 : tie.Need-wide-requires-4
+wide-requires-4 c κs = search needs
 
 mul-result : tie.Need-mul-result
 mul-result c = search needs
@@ -51,26 +70,32 @@ mul-result-3 c = search needs
 add-result-3 : tie.Need-add-result-3
 add-result-3 c = search needs
 
-returns-2 : tie.Need-returns-2
+returns-3 : tie.Need-returns-3
 unfolding numberAt
-returns-2 c = simp add-zero (omega arith)
+returns-3 c = simp add-zero (omega arith) ∙ sym (number-there _ _ (omega arith))
 
 pub number-at-spec : {M : Type 1} → statement M
 number-at-spec =
     tie.close
     (tie.spec
     returns
-    wide-at-requires
-    add-wide-at
-    wide-at-requires-2
-    add-wide-at-2
-    wide-at-requires-3
-    add-wide-at-3
-    wide-at-requires-4
+    sub-if2
+    returns-2
+    shared-slice-read-wide
+    wide-requires
+    add-wide
+    shared-slice-read-wide-2
+    wide-requires-2
+    add-wide-2
+    shared-slice-read-wide-3
+    wide-requires-3
+    add-wide-3
+    shared-slice-read-wide-4
+    wide-requires-4
     mul-result
     add-result
     mul-result-2
     add-result-2
     mul-result-3
     add-result-3
-    returns-2)
+    returns-3)

@@ -1,6 +1,8 @@
 -- `bench::events::decode` meets its contract: length and spare byte first, then the fields.
 -- Assumes nothing.
+use native.Mathlib.Omega.{arith}
 use borrow.Author.Tests.{eq-eqb, ne-eqb}
+use Rattle.bytes.proofs.Numbers.{number-there}
 use Rattle.rules.specs.Events.{decoded}
 use borrow.Author.Needs.{needs}
 use Rattle.bench.proofs.events.decode.Statement.{statement}
@@ -39,7 +41,11 @@ returns-3 : tie.Need-returns-3
 unfolding decoded
 returns-3 c =
     let no-spare = c .before .before .before .before .before .before in
-    simp (eq-eqb _ 12 (no-spare .before .before .if1 .left), eq-eqb _ 0 (no-spare .if2 .left)) cc
+    let whole = no-spare .before .before .if1 .left in
+    let l = no-spare .before .before .before .before .args .event .now in
+    let num = number-there l 4 (omega arith) in
+    let amount = number-there l 8 (omega arith) in
+    simp (eq-eqb _ 12 whole, eq-eqb _ 0 (no-spare .if2 .left)) cc
 
 pub decode-spec : {M : Type 1} → statement M
 decode-spec =

@@ -1,5 +1,8 @@
 -- `image::records::get_details` meets its contract. Each field is read where the definition reads it.
 -- Assumes nothing.
+use Prim.Native.Nat.{_+_}
+use native.Mathlib.Omega.{arith}
+use Rattle.bytes.proofs.Numbers.{number-there}
 use Rattle.layout.specs.Records.{detailsAt}
 use borrow.Author.Needs.{needs}
 use Rattle.image.proofs.records.get_details.Statement.{statement}
@@ -34,7 +37,14 @@ number-at-requires-3 c κs = search needs
 
 returns : tie.Need-returns
 unfolding detailsAt
-returns c = cc
+returns c =
+    let start = c .before .before .before .before .before .before in
+    let l = start .args .s .now in
+    let at = start .args .at in
+    let payerseq = number-there l (at + 1) (omega arith) in
+    let payeeseq = number-there l (at + 6) (omega arith) in
+    let amount = number-there l (at + 10) (omega arith) in
+    cc
 
 pub get-details-spec : {M : Type 1} → statement M
 get-details-spec =

@@ -1,5 +1,8 @@
 -- `image::records::get_purse` meets its contract. Each field is read where the definition reads it.
 -- Assumes nothing.
+use Prim.Native.Nat.{_+_}
+use native.Mathlib.Omega.{arith}
+use Rattle.bytes.proofs.Numbers.{number-there}
 use Rattle.layout.specs.Records.{purseAt}
 use borrow.Author.Needs.{needs}
 use Rattle.image.proofs.records.get_purse.Statement.{statement}
@@ -40,7 +43,13 @@ get-log-requires c κs = search needs
 
 returns : tie.Need-returns
 unfolding purseAt
-returns c = cc
+returns c =
+    let start = c .before .before .before .before .before .before .before in
+    let l = start .args .s .now in
+    let at = start .args .at in
+    let balance = number-there l at (omega arith) in
+    let next = number-there l (at + 4) (omega arith) in
+    cc
 
 pub get-purse-spec : {M : Type 1} → statement M
 get-purse-spec =

@@ -2,9 +2,10 @@
 -- Assumes nothing.
 use Prim.Native.Nat.{_≤_, _<_, _-_, _+_, _*_}
 use native.Mathlib.Omega.{arith}
-use mathlib.Core.Path.{_≡_, refl}
+use mathlib.Core.Path.{_≡_, refl, _∙_}
 use lib.ListN.{length, length-set}
 use Rattle.bytes.specs.Bytes.{numberAt}
+use Rattle.bytes.proofs.Numbers.{number-there}
 use Rattle.bytes.proofs.Coded.{length-many}
 use Rattle.bytes.proofs.Gets.{Filled, filled-none, filled-more, filled-all}
 use borrow.Author.Needs.{needs}
@@ -48,7 +49,7 @@ loop-again c =
     let below : i < 32 = omega arith in (
       omega arith,
       omega arith,
-      filled-more (numberAt 4) 4 l 1 32 0 i below (inv .2) (c .number-at .ensures),
+      filled-more (numberAt 4) 4 l 1 32 0 i below (inv .2) (c .number-at .ensures ∙ number-there l (at-loop .loop .from) (omega arith)),
       simp length-set (inv .3),
     )
 
