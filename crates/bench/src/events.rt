@@ -1,30 +1,11 @@
 // An event's bytes read: 12 bytes, numbers big-endian. What is not an event of document 01 is malformed.
+use bytes::number_at;
 use purse::Amount;
 use purse::Name;
 use purse::Seq;
 use rules::Event;
 ghost use mathlib.Core.Path.{_≡_};
-ghost use Prim.Native.Nat.{_+_, _<_, _≤_};
-ghost use lib.ListN.{length};
-ghost use Rattle.rules.specs.Events.{number, decodedAs, decoded};
-
-fn wide(x: u8) -> u32
-    ensures { λ r. ⌜ (r ≡ x) × (r < 256) ⌝ }
-{
-    x as u32
-}
-
-// Four bytes from a place on.
-fn number(l: &[u8], at: usize) -> u32
-    requires { ⌜ at + 4 ≤ length (now l) ⌝ }
-    ensures { λ r. ⌜ r ≡ number (now (l .entry)) at ⌝ }
-{
-    let a = wide(l[at]);
-    let b = wide(l[at + 1]);
-    let c = wide(l[at + 2]);
-    let d = wide(l[at + 3]);
-    ((a * 256 + b) * 256 + c) * 256 + d
-}
+ghost use Rattle.rules.specs.Events.{decodedAs, decoded};
 
 // The kind byte decides the event; a field that a kind doesn't use is 0.
 fn fields(kind: u8, purse: u8, other: u8, num: u32, amount: u32) -> Event
@@ -88,7 +69,7 @@ pub fn decode(event: &[u8]) -> Event
     if event[3] != 0 {
         return Event::Malformed;
     }
-    let num = number(event, 4);
-    let amount = number(event, 8);
+    let num = number_at(event, 4);
+    let amount = number_at(event, 8);
     fields(event[0], event[1], event[2], num, amount)
 }

@@ -2,12 +2,17 @@
 use crate::numbers::get_count;
 use crate::numbers::put_byte;
 use crate::numbers::put_count;
+use crate::widths::ENTRY_WIDTH;
+use crate::widths::HEAD_WIDTH;
+use crate::widths::MESSAGE_WIDTH;
+use crate::widths::PURSE_WIDTH;
 use purse::tested;
 ghost use mathlib.Core.Path.{_≡_};
 ghost use Prim.Native.Nat.{_≤_, _<_};
 ghost use lib.ListN.{length};
 ghost use Rattle.purse.specs.Tests.{first};
-ghost use Rattle.layout.specs.Bytes.{put};
+ghost use Rattle.bytes.specs.Bytes.{put};
+ghost use Rattle.layout.specs.Widths.{headWidth};
 ghost use Rattle.layout.specs.Head.{headBytes, headTests, imageLength};
 
 pub const VERSION: u16 = 1;
@@ -16,12 +21,15 @@ pub const VERSION: u16 = 1;
 pub fn image_length(purses: u8, messages: u16, entries: u16) -> usize
     ensures { λ r. ⌜ r ≡ imageLength purses messages entries ⌝ }
 {
-    10 + 136 * (purses as usize) + 15 * (messages as usize) + 15 * (entries as usize)
+    HEAD_WIDTH
+        + PURSE_WIDTH * (purses as usize)
+        + MESSAGE_WIDTH * (messages as usize)
+        + ENTRY_WIDTH * (entries as usize)
 }
 
 pub fn put_head(out: &mut [u8], purses: u8, messages: u16, entries: u16) -> usize
-    requires { ⌜ 10 ≤ length (now out) ⌝ }
-    ensures { λ r. ⌜ (r ≡ 10) × (now (out .exit) ≡ put (now (out .entry)) 0 (headBytes purses messages entries)) ⌝ }
+    requires { ⌜ headWidth ≤ length (now out) ⌝ }
+    ensures { λ r. ⌜ (r ≡ headWidth) × (now (out .exit) ≡ put (now (out .entry)) 0 (headBytes purses messages entries)) ⌝ }
 {
     let a = put_byte(out, 0, 0x50);
     let b = put_byte(out, a, 0x52);
@@ -37,7 +45,7 @@ pub fn head_number(s: &[u8]) -> u8
     ensures { λ r. ⌜ r ≡ first (headTests (now (s .entry))) ⌝ }
 {
     let length = s.len();
-    if length < 10 {
+    if length < HEAD_WIDTH {
         return 16;
     }
     let mark = (s[0] == 0x50) & (s[1] == 0x52) & (s[2] == 0x53);

@@ -1,8 +1,9 @@
 // Stored images: a whole bench as bytes and back, by value. What an image is, and which refusal comes first, stands in the crate layout.
 mod head; // head.rt: mark, version and counts, and the tests of them
-mod numbers; // numbers.rt: bytes, counts of two bytes and numbers of four
+mod numbers; // numbers.rt: bytes, counts of two bytes and numbers of four put, counts read
 mod reading; // reading.rt: the table and the desk that bytes give
 mod records; // records.rt: details, a log, a purse, a message, an archive entry
+mod widths; // widths.rt: how many bytes each part takes
 mod writing; // writing.rt: the table and the desk as bytes
 
 use crate::head::head_number;

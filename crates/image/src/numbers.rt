@@ -1,8 +1,8 @@
-// Numbers as bytes, the highest first.
+// Bytes, counts and numbers put, and a count read, the highest byte first. (A number is read by crate bytes.)
 ghost use mathlib.Core.Path.{_≡_};
 ghost use Prim.Native.Nat.{_+_, _≤_, _<_};
 ghost use lib.ListN.{length};
-ghost use Rattle.layout.specs.Bytes.{put, byte, big, numberAt};
+ghost use Rattle.bytes.specs.Bytes.{put, byte, big, numberAt};
 
 // One byte.
 pub fn put_byte(out: &mut [u8], at: usize, v: u8) -> usize
@@ -35,13 +35,7 @@ pub fn put_number(out: &mut [u8], at: usize, v: u32) -> usize
     at + 4
 }
 
-fn wide(x: u8) -> u32
-    ensures { λ r. ⌜ (r ≡ x) × (r < 256) ⌝ }
-{
-    x as u32
-}
-
-fn wide_count(x: u8) -> u16
+fn wide(x: u8) -> u16
     ensures { λ r. ⌜ (r ≡ x) × (r < 256) ⌝ }
 {
     x as u16
@@ -51,18 +45,7 @@ pub fn get_count(s: &[u8], at: usize) -> u16
     requires { ⌜ at + 2 ≤ length (now s) ⌝ }
     ensures { λ r. ⌜ r ≡ numberAt 2 (now (s .entry)) at ⌝ }
 {
-    let a = wide_count(s[at]);
-    let b = wide_count(s[at + 1]);
-    a * 256 + b
-}
-
-pub fn get_number(s: &[u8], at: usize) -> u32
-    requires { ⌜ at + 4 ≤ length (now s) ⌝ }
-    ensures { λ r. ⌜ r ≡ numberAt 4 (now (s .entry)) at ⌝ }
-{
     let a = wide(s[at]);
     let b = wide(s[at + 1]);
-    let c = wide(s[at + 2]);
-    let d = wide(s[at + 3]);
-    ((a * 256 + b) * 256 + c) * 256 + d
+    a * 256 + b
 }

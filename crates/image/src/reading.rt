@@ -3,6 +3,10 @@ use crate::numbers::get_count;
 use crate::records::get_entry;
 use crate::records::get_message;
 use crate::records::get_purse;
+use crate::widths::ENTRY_WIDTH;
+use crate::widths::HEAD_WIDTH;
+use crate::widths::MESSAGE_WIDTH;
+use crate::widths::PURSE_WIDTH;
 use desk::Archive;
 use desk::Desk;
 use desk::Entry;
@@ -18,14 +22,15 @@ ghost use Rattle.purse.specs.Details.{zeroMessage};
 ghost use Rattle.purse.specs.Purse.{zeroPurse};
 ghost use Rattle.purse.specs.Tests.{first};
 ghost use Rattle.desk.specs.Desk.{zeroEntry};
-ghost use Rattle.layout.specs.Bytes.{many};
+ghost use Rattle.bytes.specs.Bytes.{many};
+ghost use Rattle.layout.specs.Widths.{purseWidth, messageWidth, entryWidth};
 ghost use Rattle.layout.specs.Records.{purseAt, messageAt, entryAt};
 ghost use Rattle.layout.specs.Head.{headTests};
 ghost use Rattle.layout.specs.Image.{benchIn};
 
 pub fn get_purses(s: &[u8], at: usize, count: u8) -> [Purse; 32]
-    requires { ⌜ (count ≤ 32) × (at + 136 * count ≤ length (now s)) ⌝ }
-    ensures { λ r. ⌜ r ≡ many purseAt 136 count (now (s .entry)) at ++ replicate (32 - count) zeroPurse ⌝ }
+    requires { ⌜ (count ≤ 32) × (at + purseWidth * count ≤ length (now s)) ⌝ }
+    ensures { λ r. ⌜ r ≡ many purseAt purseWidth count (now (s .entry)) at ++ replicate (32 - count) zeroPurse ⌝ }
 {
     let n = count as usize;
     let z = Purse::zero();
@@ -35,15 +40,15 @@ pub fn get_purses(s: &[u8], at: usize, count: u8) -> [Purse; 32]
     while i < n {
         let p = get_purse(s, from);
         table[i] = p;
-        from += 136;
+        from += PURSE_WIDTH;
         i += 1;
     }
     table
 }
 
 pub fn get_messages(s: &[u8], at: usize, count: u16) -> Ether
-    requires { ⌜ (count ≤ 256) × (at + 15 * count ≤ length (now s)) ⌝ }
-    ensures { λ r. ⌜ r ≡ record { places = many messageAt 15 count (now (s .entry)) at ++ replicate (256 - count) zeroMessage; count = count } ⌝ }
+    requires { ⌜ (count ≤ 256) × (at + messageWidth * count ≤ length (now s)) ⌝ }
+    ensures { λ r. ⌜ r ≡ record { places = many messageAt messageWidth count (now (s .entry)) at ++ replicate (256 - count) zeroMessage; count = count } ⌝ }
 {
     let n = count as usize;
     let z = Message::zero();
@@ -53,7 +58,7 @@ pub fn get_messages(s: &[u8], at: usize, count: u16) -> Ether
     while i < n {
         let m = get_message(s, from);
         places[i] = m;
-        from += 15;
+        from += MESSAGE_WIDTH;
         i += 1;
     }
     Ether {
@@ -63,8 +68,8 @@ pub fn get_messages(s: &[u8], at: usize, count: u16) -> Ether
 }
 
 pub fn get_entries(s: &[u8], at: usize, count: u16) -> Archive
-    requires { ⌜ (count ≤ 256) × (at + 15 * count ≤ length (now s)) ⌝ }
-    ensures { λ r. ⌜ r ≡ record { places = many entryAt 15 count (now (s .entry)) at ++ replicate (256 - count) zeroEntry; count = count } ⌝ }
+    requires { ⌜ (count ≤ 256) × (at + entryWidth * count ≤ length (now s)) ⌝ }
+    ensures { λ r. ⌜ r ≡ record { places = many entryAt entryWidth count (now (s .entry)) at ++ replicate (256 - count) zeroEntry; count = count } ⌝ }
 {
     let n = count as usize;
     let z = Entry::zero();
@@ -74,7 +79,7 @@ pub fn get_entries(s: &[u8], at: usize, count: u16) -> Archive
     while i < n {
         let e = get_entry(s, from);
         places[i] = e;
-        from += 15;
+        from += ENTRY_WIDTH;
         i += 1;
     }
     Archive {
@@ -91,9 +96,9 @@ pub fn get_bench(s: &[u8]) -> Held
     let purses = s[5];
     let messages = get_count(s, 6);
     let entries = get_count(s, 8);
-    let b = 10 + 136 * (purses as usize);
-    let c = b + 15 * (messages as usize);
-    let table = get_purses(s, 10, purses);
+    let b = HEAD_WIDTH + PURSE_WIDTH * (purses as usize);
+    let c = b + MESSAGE_WIDTH * (messages as usize);
+    let table = get_purses(s, HEAD_WIDTH, purses);
     let ether = get_messages(s, b, messages);
     let archive = get_entries(s, c, entries);
     let desk = Desk {

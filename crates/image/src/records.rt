@@ -1,7 +1,8 @@
 // The records of an image: details, a log, a purse, a message, an archive entry, each at a place of the bytes.
-use crate::numbers::get_number;
 use crate::numbers::put_byte;
 use crate::numbers::put_number;
+use crate::widths::DETAILS_WIDTH;
+use bytes::number_at;
 use desk::Entry;
 use purse::Amount;
 use purse::Details;
@@ -12,12 +13,13 @@ use purse::Seq;
 ghost use mathlib.Core.Path.{_≡_};
 ghost use Prim.Native.Nat.{_+_, _≤_};
 ghost use lib.ListN.{length};
-ghost use Rattle.layout.specs.Bytes.{put};
+ghost use Rattle.bytes.specs.Bytes.{put};
+ghost use Rattle.layout.specs.Widths.{detailsWidth, logWidth, purseWidth, messageWidth, entryWidth};
 ghost use Rattle.layout.specs.Records.{detailsBytes, detailsAt, logBytes, logAt, purseBytes, purseAt, messageBytes, messageAt, entryBytes, entryAt};
 
 pub fn put_details(out: &mut [u8], at: usize, d: Details) -> usize
-    requires { ⌜ at + 14 ≤ length (now out) ⌝ }
-    ensures { λ r. ⌜ (r ≡ at + 14) × (now (out .exit) ≡ put (now (out .entry)) at (detailsBytes d)) × (length (detailsBytes d) ≡ 14) ⌝ }
+    requires { ⌜ at + detailsWidth ≤ length (now out) ⌝ }
+    ensures { λ r. ⌜ (r ≡ at + detailsWidth) × (now (out .exit) ≡ put (now (out .entry)) at (detailsBytes d)) × (length (detailsBytes d) ≡ detailsWidth) ⌝ }
 {
     let a = put_byte(out, at, d.payer.0);
     let b = put_number(out, a, d.payerseq.0);
@@ -27,14 +29,14 @@ pub fn put_details(out: &mut [u8], at: usize, d: Details) -> usize
 }
 
 pub fn get_details(s: &[u8], at: usize) -> Details
-    requires { ⌜ at + 14 ≤ length (now s) ⌝ }
+    requires { ⌜ at + detailsWidth ≤ length (now s) ⌝ }
     ensures { λ r. ⌜ r ≡ detailsAt (now (s .entry)) at ⌝ }
 {
     let payer = Name(s[at]);
-    let payerseq = Seq(get_number(s, at + 1));
+    let payerseq = Seq(number_at(s, at + 1));
     let payee = Name(s[at + 5]);
-    let payeeseq = Seq(get_number(s, at + 6));
-    let amount = Amount(get_number(s, at + 10));
+    let payeeseq = Seq(number_at(s, at + 6));
+    let amount = Amount(number_at(s, at + 10));
     Details {
         payer: payer,
         payerseq: payerseq,
@@ -46,8 +48,8 @@ pub fn get_details(s: &[u8], at: usize) -> Details
 
 // The eight places of a log.
 pub fn put_log(out: &mut [u8], at: usize, log: [Details; 8]) -> usize
-    requires { ⌜ at + 112 ≤ length (now out) ⌝ }
-    ensures { λ r. ⌜ (r ≡ at + 112) × (now (out .exit) ≡ put (now (out .entry)) at (logBytes log)) × (length (logBytes log) ≡ 112) ⌝ }
+    requires { ⌜ at + logWidth ≤ length (now out) ⌝ }
+    ensures { λ r. ⌜ (r ≡ at + logWidth) × (now (out .exit) ≡ put (now (out .entry)) at (logBytes log)) × (length (logBytes log) ≡ logWidth) ⌝ }
 {
     let mut i: usize = 0;
     let mut to = at;
@@ -60,7 +62,7 @@ pub fn put_log(out: &mut [u8], at: usize, log: [Details; 8]) -> usize
 }
 
 pub fn get_log(s: &[u8], at: usize) -> [Details; 8]
-    requires { ⌜ at + 112 ≤ length (now s) ⌝ }
+    requires { ⌜ at + logWidth ≤ length (now s) ⌝ }
     ensures { λ r. ⌜ r ≡ logAt (now (s .entry)) at ⌝ }
 {
     let z = Details::zero();
@@ -70,15 +72,15 @@ pub fn get_log(s: &[u8], at: usize) -> [Details; 8]
     while i < 8 {
         let d = get_details(s, from);
         log[i] = d;
-        from += 14;
+        from += DETAILS_WIDTH;
         i += 1;
     }
     log
 }
 
 pub fn put_purse(out: &mut [u8], at: usize, p: Purse) -> usize
-    requires { ⌜ at + 136 ≤ length (now out) ⌝ }
-    ensures { λ r. ⌜ (r ≡ at + 136) × (now (out .exit) ≡ put (now (out .entry)) at (purseBytes p)) × (length (purseBytes p) ≡ 136) ⌝ }
+    requires { ⌜ at + purseWidth ≤ length (now out) ⌝ }
+    ensures { λ r. ⌜ (r ≡ at + purseWidth) × (now (out .exit) ≡ put (now (out .entry)) at (purseBytes p)) × (length (purseBytes p) ≡ purseWidth) ⌝ }
 {
     let details = p.details;
     let log = p.log;
@@ -91,11 +93,11 @@ pub fn put_purse(out: &mut [u8], at: usize, p: Purse) -> usize
 }
 
 pub fn get_purse(s: &[u8], at: usize) -> Purse
-    requires { ⌜ at + 136 ≤ length (now s) ⌝ }
+    requires { ⌜ at + purseWidth ≤ length (now s) ⌝ }
     ensures { λ r. ⌜ r ≡ purseAt (now (s .entry)) at ⌝ }
 {
-    let balance = Amount(get_number(s, at));
-    let next = Seq(get_number(s, at + 4));
+    let balance = Amount(number_at(s, at));
+    let next = Seq(number_at(s, at + 4));
     let status = s[at + 8];
     let logged = s[at + 9];
     let details = get_details(s, at + 10);
@@ -111,8 +113,8 @@ pub fn get_purse(s: &[u8], at: usize) -> Purse
 }
 
 pub fn put_message(out: &mut [u8], at: usize, m: Message) -> usize
-    requires { ⌜ at + 15 ≤ length (now out) ⌝ }
-    ensures { λ r. ⌜ (r ≡ at + 15) × (now (out .exit) ≡ put (now (out .entry)) at (messageBytes m)) × (length (messageBytes m) ≡ 15) ⌝ }
+    requires { ⌜ at + messageWidth ≤ length (now out) ⌝ }
+    ensures { λ r. ⌜ (r ≡ at + messageWidth) × (now (out .exit) ≡ put (now (out .entry)) at (messageBytes m)) × (length (messageBytes m) ≡ messageWidth) ⌝ }
 {
     let details = m.details;
     let a = put_byte(out, at, m.kind);
@@ -120,7 +122,7 @@ pub fn put_message(out: &mut [u8], at: usize, m: Message) -> usize
 }
 
 pub fn get_message(s: &[u8], at: usize) -> Message
-    requires { ⌜ at + 15 ≤ length (now s) ⌝ }
+    requires { ⌜ at + messageWidth ≤ length (now s) ⌝ }
     ensures { λ r. ⌜ r ≡ messageAt (now (s .entry)) at ⌝ }
 {
     let kind = s[at];
@@ -132,8 +134,8 @@ pub fn get_message(s: &[u8], at: usize) -> Message
 }
 
 pub fn put_entry(out: &mut [u8], at: usize, e: Entry) -> usize
-    requires { ⌜ at + 15 ≤ length (now out) ⌝ }
-    ensures { λ r. ⌜ (r ≡ at + 15) × (now (out .exit) ≡ put (now (out .entry)) at (entryBytes e)) × (length (entryBytes e) ≡ 15) ⌝ }
+    requires { ⌜ at + entryWidth ≤ length (now out) ⌝ }
+    ensures { λ r. ⌜ (r ≡ at + entryWidth) × (now (out .exit) ≡ put (now (out .entry)) at (entryBytes e)) × (length (entryBytes e) ≡ entryWidth) ⌝ }
 {
     let details = e.details;
     let a = put_byte(out, at, e.by.0);
@@ -141,7 +143,7 @@ pub fn put_entry(out: &mut [u8], at: usize, e: Entry) -> usize
 }
 
 pub fn get_entry(s: &[u8], at: usize) -> Entry
-    requires { ⌜ at + 15 ≤ length (now s) ⌝ }
+    requires { ⌜ at + entryWidth ≤ length (now s) ⌝ }
     ensures { λ r. ⌜ r ≡ entryAt (now (s .entry)) at ⌝ }
 {
     let by = Name(s[at]);

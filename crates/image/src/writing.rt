@@ -12,14 +12,15 @@ ghost use mathlib.Core.Path.{_≡_};
 ghost use mathlib.Core.Bool.{true};
 ghost use Prim.Native.Nat.{_+_, _*_, _≤_};
 ghost use lib.ListN.{length, take};
-ghost use Rattle.layout.specs.Bytes.{put, flat};
+ghost use Rattle.bytes.specs.Bytes.{put, flat};
+ghost use Rattle.layout.specs.Widths.{purseWidth, messageWidth, entryWidth};
 ghost use Rattle.layout.specs.Records.{purseBytes, messageBytes, entryBytes};
 ghost use Rattle.rules.specs.Laid.{heldOk};
 ghost use Rattle.layout.specs.Image.{imageOf};
 
 pub fn put_purses(out: &mut [u8], at: usize, table: [Purse; 32], count: u8) -> usize
-    requires { ⌜ (count ≤ 32) × (at + 136 * count ≤ length (now out)) ⌝ }
-    ensures { λ r. ⌜ (r ≡ at + 136 * count) × (now (out .exit) ≡ put (now (out .entry)) at (flat purseBytes (take count table))) × (length (flat purseBytes (take count table)) ≡ 136 * count) ⌝ }
+    requires { ⌜ (count ≤ 32) × (at + purseWidth * count ≤ length (now out)) ⌝ }
+    ensures { λ r. ⌜ (r ≡ at + purseWidth * count) × (now (out .exit) ≡ put (now (out .entry)) at (flat purseBytes (take count table))) × (length (flat purseBytes (take count table)) ≡ purseWidth * count) ⌝ }
 {
     let n = count as usize;
     let mut i: usize = 0;
@@ -33,8 +34,8 @@ pub fn put_purses(out: &mut [u8], at: usize, table: [Purse; 32], count: u8) -> u
 }
 
 pub fn put_messages(out: &mut [u8], at: usize, e: Ether) -> usize
-    requires { ⌜ (e .count ≤ 256) × (at + 15 * e .count ≤ length (now out)) ⌝ }
-    ensures { λ r. ⌜ (r ≡ at + 15 * e .count) × (now (out .exit) ≡ put (now (out .entry)) at (flat messageBytes (take (e .count) (e .places)))) × (length (flat messageBytes (take (e .count) (e .places))) ≡ 15 * e .count) ⌝ }
+    requires { ⌜ (e .count ≤ 256) × (at + messageWidth * e .count ≤ length (now out)) ⌝ }
+    ensures { λ r. ⌜ (r ≡ at + messageWidth * e .count) × (now (out .exit) ≡ put (now (out .entry)) at (flat messageBytes (take (e .count) (e .places)))) × (length (flat messageBytes (take (e .count) (e .places))) ≡ messageWidth * e .count) ⌝ }
 {
     let n = e.count as usize;
     let mut i: usize = 0;
@@ -48,8 +49,8 @@ pub fn put_messages(out: &mut [u8], at: usize, e: Ether) -> usize
 }
 
 pub fn put_entries(out: &mut [u8], at: usize, e: Archive) -> usize
-    requires { ⌜ (e .count ≤ 256) × (at + 15 * e .count ≤ length (now out)) ⌝ }
-    ensures { λ r. ⌜ (r ≡ at + 15 * e .count) × (now (out .exit) ≡ put (now (out .entry)) at (flat entryBytes (take (e .count) (e .places)))) × (length (flat entryBytes (take (e .count) (e .places))) ≡ 15 * e .count) ⌝ }
+    requires { ⌜ (e .count ≤ 256) × (at + entryWidth * e .count ≤ length (now out)) ⌝ }
+    ensures { λ r. ⌜ (r ≡ at + entryWidth * e .count) × (now (out .exit) ≡ put (now (out .entry)) at (flat entryBytes (take (e .count) (e .places)))) × (length (flat entryBytes (take (e .count) (e .places))) ≡ entryWidth * e .count) ⌝ }
 {
     let n = e.count as usize;
     let mut i: usize = 0;

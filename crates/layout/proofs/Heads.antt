@@ -11,7 +11,8 @@ use borrow.Author.Tests.{leb-true, eqb-true, not-false, le-ltb, le-leb, eq-eqb}
 use Rattle.purse.specs.Tests.{first, walked}
 use Rattle.purse.proofs.Bools.{and-l, and-r, and-i}
 use Rattle.purse.proofs.Tests.{passed, walks}
-use Rattle.layout.specs.Bytes.{byteAt}
+use Rattle.bytes.specs.Bytes.{byteAt}
+use Rattle.layout.specs.Widths.{headWidth}
 use Rattle.layout.specs.Head.{version, marked, versionIn, pursesIn, messagesIn, entriesIn, imageLength, countsIn, headTests}
 
 pub record HeadOk (l : List ℕ) : Type 0 where
@@ -28,7 +29,7 @@ pub record HeadOk (l : List ℕ) : Type 0 where
 pub head-ok : (l : List ℕ) → first (headTests l) ≡ 0 → HeadOk l
 head-ok l e =
     let whole : Bool = eqb (length l) (imageLength (pursesIn l) (messagesIn l) (entriesIn l)) in
-    let p1 = passed (ltb (length l) 10) 16 _ (omega arith) e in
+    let p1 = passed (ltb (length l) headWidth) 16 _ (omega arith) e in
     let p2 = passed (not (marked l)) 17 _ (omega arith) (p1 .1) in
     let p3 = passed (not (eqb (versionIn l) version)) 18 _ (omega arith) (p2 .1) in
     let p4 = passed (not (countsIn l)) 2 _ (omega arith) (p3 .1) in
@@ -58,12 +59,12 @@ head-ok l e =
     }
 
 -- past the first test the others are taken one by one
-pub later : (l : List ℕ) → ltb (length l) 10 ≡ false → walked 0 (drop 1 (headTests l)) ≡ first (headTests l)
+pub later : (l : List ℕ) → ltb (length l) headWidth ≡ false → walked 0 (drop 1 (headTests l)) ≡ first (headTests l)
 later l e = rw e (walks (drop 1 (headTests l)) refl)
 
 pub ok-head : (l : List ℕ) → HeadOk l → first (headTests l) ≡ 0
 ok-head l h =
-    let t1 : ltb (length l) 10 ≡ false = le-ltb (length l) 10 (omega (arith, h .long)) in
+    let t1 : ltb (length l) headWidth ≡ false = le-ltb (length l) headWidth (omega (arith, h .long)) in
     let t2 : marked l ≡ true = and-i (and-i (eq-eqb _ _ (h .mark1)) (eq-eqb _ _ (h .mark2))) (eq-eqb _ _ (h .mark3)) in
     let t3 : eqb (versionIn l) version ≡ true = eq-eqb _ _ (h .version) in
     let t4 : countsIn l ≡ true =

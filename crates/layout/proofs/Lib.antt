@@ -1,5 +1,4 @@
 pub mod Examples
-pub mod Coded
 pub mod Records
 pub mod Firsts
 pub mod Heads

@@ -9,10 +9,11 @@ use Rattle.purse.specs.declared.Message.{Message}
 use Rattle.purse.specs.declared.Purse.{Purse}
 use Rattle.desk.specs.declared.Entry.{Entry}
 use Rattle.layout.specs.Records.{detailsBytes, detailsAt, purseBytes, purseAt, messageBytes, messageAt, entryBytes, entryAt}
+use Rattle.layout.specs.Widths.{detailsWidth, purseWidth, messageWidth, entryWidth}
 use Rattle.layout.specs.Fits.{FitDetails, FitPurse, FitMessage, FitEntry}
-use Rattle.layout.proofs.Coded.{Coded, Any, any-all, byte-coded, number-coded, pair-coded, held-coded, many-coded}
+use Rattle.bytes.proofs.Coded.{Coded, Any, any-all, byte-coded, number-coded, pair-coded, held-coded, many-coded}
 
-pub details-coded : Coded detailsBytes detailsAt 14 Any FitDetails
+pub details-coded : Coded detailsBytes detailsAt detailsWidth Any FitDetails
 unfolding detailsBytes detailsAt
 details-coded =
     held-coded Any FitDetails
@@ -32,7 +33,7 @@ details-coded =
 abbrev pub EightPlaces : Purse → Type 0
 EightPlaces p = length (p .log) ≡ 8
 
-pub purse-coded : Coded purseBytes purseAt 136 EightPlaces FitPurse
+pub purse-coded : Coded purseBytes purseAt purseWidth EightPlaces FitPurse
 unfolding purseBytes purseAt
 purse-coded =
     held-coded EightPlaces FitPurse
@@ -50,14 +51,14 @@ purse-coded =
     (pair-coded (pair-coded (pair-coded (pair-coded (pair-coded (number-coded 4) (number-coded 4)) byte-coded) byte-coded) details-coded)
     (many-coded details-coded 8))
 
-pub message-coded : Coded messageBytes messageAt 15 Any FitMessage
+pub message-coded : Coded messageBytes messageAt messageWidth Any FitMessage
 unfolding messageBytes messageAt
 message-coded =
     held-coded Any FitMessage (λ (m : Message). (m .kind, m .details)) (λ (x : ℕ × Details). record { kind = x .0; details = x .1 })
     (λ m. refl) (λ x. refl) (λ m s. (tt, tt)) (λ m f. (tt, f .details))
     (pair-coded byte-coded details-coded)
 
-pub entry-coded : Coded entryBytes entryAt 15 Any FitEntry
+pub entry-coded : Coded entryBytes entryAt entryWidth Any FitEntry
 unfolding entryBytes entryAt
 entry-coded =
     held-coded Any FitEntry (λ (e : Entry). (e .by .0, e .details)) (λ (x : ℕ × Details). record { by = record { 0 = x .0 }; details = x .1 })

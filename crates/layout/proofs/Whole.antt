@@ -15,14 +15,13 @@ use Rattle.desk.specs.declared.Ether.{Ether}
 use Rattle.desk.specs.declared.Archive.{Archive}
 use Rattle.desk.specs.declared.Held.{Held}
 use Rattle.desk.specs.Desk.{zeroEntry}
-use Rattle.layout.specs.Bytes.{byte, byteAt, big, numberAt, flat, many}
-use Rattle.layout.specs.Fits.{All, Below}
+use Rattle.bytes.specs.Bytes.{byte, byteAt, big, numberAt, Below, All, flat, many}
 use Rattle.layout.specs.Records.{purseBytes, purseAt, messageBytes, messageAt, entryBytes, entryAt}
-use Rattle.layout.proofs.Coded.{Coded, Any, Bytes, seg, any-all, byte-coded, number-coded, pair-coded, held-coded, many-coded}
-use Rattle.layout.proofs.Coded.{length-many}
+use Rattle.bytes.proofs.Coded.{Coded, Any, Bytes, seg, any-all, byte-coded, number-coded, pair-coded, held-coded, many-coded, length-many}
 use Rattle.layout.proofs.Records.{EightPlaces, purse-coded, message-coded, entry-coded}
 use Rattle.rules.specs.Bench.{Bench}
-use Rattle.layout.specs.Head.{version, headBytes, pursesIn, messagesIn, entriesIn, imageLength}
+use Rattle.layout.specs.Widths.{headWidth, purseWidth, messageWidth, entryWidth}
+use Rattle.layout.specs.Head.{version, headBytes, pursesIn, messagesIn, entriesIn, messagesFrom, entriesFrom, imageLength}
 use Rattle.layout.specs.Image.{benchBytes, listsIn, benchIn, Fits}
 use Rattle.layout.proofs.Heads.{HeadOk}
 
@@ -58,7 +57,7 @@ headAt l i =
       entries = numberAt 2 l (i + 8);
     }
 
-head-coded : Coded headOf headAt 10 Any FitHead
+head-coded : Coded headOf headAt headWidth Any FitHead
 head-coded =
     held-coded Any FitHead
     (λ (h : Head). ((((((h .mark1, h .mark2), h .mark3), h .version), h .purses), h .messages), h .entries))
@@ -105,13 +104,13 @@ wholeAt p m a l i =
       head = headAt l i;
       lists =
           record {
-            purses = many purseAt 136 p l (i + 10);
-            messages = many messageAt 15 m l (i + 10 + 136 * p);
-            archive = many entryAt 15 a l (i + 10 + 136 * p + 15 * m);
+            purses = many purseAt purseWidth p l (i + headWidth);
+            messages = many messageAt messageWidth m l (i + headWidth + purseWidth * p);
+            archive = many entryAt entryWidth a l (i + headWidth + purseWidth * p + messageWidth * m);
           };
     }
 
-whole-coded : (p m a : ℕ) → Coded wholeBytes (wholeAt p m a) (10 + (136 * p + (15 * m + 15 * a))) (Counted p m a) FitImage
+whole-coded : (p m a : ℕ) → Coded wholeBytes (wholeAt p m a) (headWidth + (purseWidth * p + (messageWidth * m + entryWidth * a))) (Counted p m a) FitImage
 whole-coded p m a =
     held-coded (Counted p m a) FitImage
     (λ (x : Image). (x .head, (x .lists .purses, (x .lists .messages, x .lists .archive))))
@@ -208,29 +207,29 @@ lists-again l k h =
     let c = whole-coded (pursesIn l) (messagesIn l) (entriesIn l) in
     let b : Bench = listsIn l in
     let e : Head = headAt l 0 in
-    let p : length (b .purses) ≡ pursesIn l = length-many purseAt 136 (pursesIn l) l 10 in
-    let m : length (b .messages) ≡ messagesIn l = length-many messageAt 15 (messagesIn l) l (10 + 136 * pursesIn l) in
-    let a : length (b .archive) ≡ entriesIn l = length-many entryAt 15 (entriesIn l) l (10 + 136 * pursesIn l + 15 * messagesIn l) in
+    let p : length (b .purses) ≡ pursesIn l = length-many purseAt purseWidth (pursesIn l) l headWidth in
+    let m : length (b .messages) ≡ messagesIn l = length-many messageAt messageWidth (messagesIn l) l (messagesFrom (pursesIn l)) in
+    let a : length (b .archive) ≡ entriesIn l = length-many entryAt entryWidth (entriesIn l) l (entriesFrom (pursesIn l) (messagesIn l)) in
     let same : imaged b .head ≡ e =
     (λ i. record { mark1 = sym (h .mark1) i; mark2 = sym (h .mark2) i; mark3 = sym (h .mark3) i; version = sym (h .version) i; purses = p i; messages = m i; entries = a i })
     in
     imaged-bytes b
     ∙ ap (λ (x : Head). wholeBytes (record { head = x; lists = b })) same
     ∙ c .again l 0 (omega (arith, h .long)) k
-    ∙ take-all (10 + (136 * pursesIn l + (15 * messagesIn l + 15 * entriesIn l))) l (omega (arith, h .long))
+    ∙ take-all (headWidth + (purseWidth * pursesIn l + (messageWidth * messagesIn l + entryWidth * entriesIn l))) l (omega (arith, h .long))
 
 -- a table and a desk that hold the lists of an image, and zeros behind each, are the bench that it gives
 pub placed : (l : List ℕ) {t : List Purse} {e : Ether} {a : Archive}
-    → t ≡ many purseAt 136 (pursesIn l) l 10 ++ replicate (32 - pursesIn l) zeroPurse
+    → t ≡ many purseAt purseWidth (pursesIn l) l headWidth ++ replicate (32 - pursesIn l) zeroPurse
     → e
     ≡ record {
-      places = many messageAt 15 (messagesIn l) l (10 + 136 * pursesIn l) ++ replicate (256 - messagesIn l) zeroMessage;
+      places = many messageAt messageWidth (messagesIn l) l (messagesFrom (pursesIn l)) ++ replicate (256 - messagesIn l) zeroMessage;
       count = messagesIn l;
     }
     → a
     ≡ record {
       places =
-          many entryAt 15 (entriesIn l) l (10 + 136 * pursesIn l + 15 * messagesIn l) ++ replicate (256 - entriesIn l) zeroEntry;
+          many entryAt entryWidth (entriesIn l) l (entriesFrom (pursesIn l) (messagesIn l)) ++ replicate (256 - entriesIn l) zeroEntry;
       count = entriesIn l;
     }
     → _≡_ {A = Held} (record { table = t; desk = record { purses = pursesIn l; ether = e; archive = a } }) (benchIn l)
@@ -240,7 +239,7 @@ placed l p q r =
       p,
       q,
       r,
-      length-many purseAt 136 (pursesIn l) l 10,
-      length-many messageAt 15 (messagesIn l) l (10 + 136 * pursesIn l),
-      length-many entryAt 15 (entriesIn l) l (10 + 136 * pursesIn l + 15 * messagesIn l),
+      length-many purseAt purseWidth (pursesIn l) l headWidth,
+      length-many messageAt messageWidth (messagesIn l) l (messagesFrom (pursesIn l)),
+      length-many entryAt entryWidth (entriesIn l) l (entriesFrom (pursesIn l) (messagesIn l)),
     )

@@ -5,7 +5,8 @@ use mathlib.Core.List.{List, [], _∷_, _++_}
 use lib.ListN.{length}
 use lib.Dec.{ltb, leb, eqb}
 use Rattle.purse.specs.Tests.{Test, _⇒_}
-use Rattle.layout.specs.Bytes.{byte, byteAt, big, numberAt}
+use Rattle.bytes.specs.Bytes.{byte, byteAt, big, numberAt}
+use Rattle.layout.specs.Widths.{headWidth, purseWidth, messageWidth, entryWidth}
 
 -- "version 00 01"
 abbrev pub version : ℕ
@@ -31,9 +32,16 @@ messagesIn l = numberAt 2 l 6
 abbrev pub entriesIn : List ℕ → ℕ
 entriesIn l = numberAt 2 l 8
 
--- how long an image of so many purses, messages and entries is: 10 bytes, 136 a purse, 15 a message, 15 an entry
+-- where the messages begin, behind so many purses; and the archive entries, behind so many messages
+abbrev pub messagesFrom : ℕ → ℕ
+messagesFrom p = headWidth + purseWidth * p
+
+abbrev pub entriesFrom : ℕ → ℕ → ℕ
+entriesFrom p m = messagesFrom p + messageWidth * m
+
+-- how long an image of so many purses, messages and entries is
 abbrev pub imageLength : ℕ → ℕ → ℕ → ℕ
-imageLength p m a = 10 + 136 * p + 15 * m + 15 * a
+imageLength p m a = headWidth + purseWidth * p + messageWidth * m + entryWidth * a
 
 -- "1 to 32 purses", "at most 256 messages and 256 archive entries"
 abbrev pub countsIn : List ℕ → Bool
@@ -42,7 +50,7 @@ countsIn l = leb 1 (pursesIn l) && leb (pursesIn l) 32 && leb (messagesIn l) 256
 -- "16 (under 10), 17, 18, counts (2), 16 (length)"
 abbrev pub headTests : List ℕ → List Test
 headTests l =
-    (ltb (length l) 10 ⇒ 16)
+    (ltb (length l) headWidth ⇒ 16)
     ∷ (not (marked l) ⇒ 17)
     ∷ (not (eqb (versionIn l) version) ⇒ 18)
     ∷ (not (countsIn l) ⇒ 2)

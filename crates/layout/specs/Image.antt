@@ -1,14 +1,15 @@
 -- A whole bench as bytes, and the bench that bytes give: document 01, "Stored image".
-use Prim.Native.Nat.{ℕ, _+_, _*_}
+use Prim.Native.Nat.{ℕ}
 use mathlib.Core.List.{List, _++_}
 use lib.ListN.{length}
-use Rattle.layout.specs.Bytes.{flat, many}
-use Rattle.layout.specs.Fits.{All, FitPurse, FitMessage, FitEntry}
+use Rattle.bytes.specs.Bytes.{All, flat, many}
+use Rattle.layout.specs.Widths.{headWidth, purseWidth, messageWidth, entryWidth}
+use Rattle.layout.specs.Fits.{FitPurse, FitMessage, FitEntry}
 use Rattle.layout.specs.Records.{purseBytes, purseAt, messageBytes, messageAt, entryBytes, entryAt}
 use Rattle.desk.specs.declared.Held.{Held}
 use Rattle.rules.specs.Bench.{Bench}
 use Rattle.rules.specs.Laid.{laid, seen}
-use Rattle.layout.specs.Head.{headBytes, pursesIn, messagesIn, entriesIn}
+use Rattle.layout.specs.Head.{headBytes, pursesIn, messagesIn, entriesIn, messagesFrom, entriesFrom}
 
 -- the head; "Then per purse 136 bytes"; "Then 15 bytes a message"; "Then 15 bytes an archive entry"
 unfoldable pub benchBytes : Bench → List ℕ
@@ -24,9 +25,9 @@ imageOf h = benchBytes (seen h)
 unfoldable pub listsIn : List ℕ → Bench
 listsIn l =
     record {
-      purses = many purseAt 136 (pursesIn l) l 10;
-      messages = many messageAt 15 (messagesIn l) l (10 + 136 * pursesIn l);
-      archive = many entryAt 15 (entriesIn l) l (10 + 136 * pursesIn l + 15 * messagesIn l);
+      purses = many purseAt purseWidth (pursesIn l) l headWidth;
+      messages = many messageAt messageWidth (messagesIn l) l (messagesFrom (pursesIn l));
+      archive = many entryAt entryWidth (entriesIn l) l (entriesFrom (pursesIn l) (messagesIn l));
     }
 
 -- and how they lie in the table and the desk: everything unused is zero

@@ -1,5 +1,5 @@
-pub mod Bytes
 pub mod Fits
+pub mod Widths
 pub mod Records
 pub mod Head
 pub mod Image

@@ -6,7 +6,8 @@ use Rattle.purse.specs.declared.Details.{Details}
 use Rattle.purse.specs.declared.Message.{Message}
 use Rattle.purse.specs.declared.Purse.{Purse}
 use Rattle.desk.specs.declared.Entry.{Entry}
-use Rattle.layout.specs.Bytes.{byte, byteAt, big, numberAt, flat, many}
+use Rattle.bytes.specs.Bytes.{byte, byteAt, big, numberAt, flat, many}
+use Rattle.layout.specs.Widths.{detailsWidth}
 
 -- "Details: payer 1, its number 4, payee 1, its number 4, amount 4"
 unfoldable pub detailsBytes : Details → List ℕ
@@ -28,7 +29,7 @@ abbrev pub logBytes : List Details → List ℕ
 logBytes ds = flat detailsBytes ds
 
 abbrev pub logAt : List ℕ → ℕ → List Details
-logAt l at = many detailsAt 14 8 l at
+logAt l at = many detailsAt detailsWidth 8 l at
 
 -- "per purse 136 bytes: balance 4, next 4, status 1, log count 1, details 14, eight log places of 14"
 unfoldable pub purseBytes : Purse → List ℕ

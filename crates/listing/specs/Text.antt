@@ -5,7 +5,7 @@ use mathlib.Core.Bool.{Bool, cond}
 use mathlib.Core.List.{List, [], _∷_, _++_}
 use lib.ListN.{length}
 use lib.Dec.{ltb}
-use Rattle.layout.specs.Bytes.{put, byte}
+use Rattle.bytes.specs.Bytes.{put, byte}
 
 -- what is left where bytes were put from a place on: the place behind them, and the buffer
 pub record Written (l : List ℕ) (at : ℕ) (bytes : List ℕ) (next : ℕ) (l′ : List ℕ) : Type 0 where

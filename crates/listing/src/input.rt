@@ -1,6 +1,6 @@
 // The input's opening bytes: purse count, then 4 bytes a balance.
 use crate::Opening;
-use crate::numbers::get_number;
+use bytes::number_at;
 ghost use mathlib.Core.Path.{_≡_};
 ghost use Prim.Native.Nat.{_+_, _*_, _≤_, _<_};
 ghost use lib.ListN.{length};
@@ -24,7 +24,7 @@ fn balances(l: &[u8], count: usize) -> [u32; 32]
     let mut i: usize = 0;
     let mut from: usize = 1;
     while i < count {
-        all[i] = get_number(l, from);
+        all[i] = number_at(l, from);
         from += 4;
         i += 1;
     }

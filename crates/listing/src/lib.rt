@@ -1,5 +1,5 @@
 // The bench program's listing: bytes filled into a buffer that the caller lends, and the opening bytes of its input read.
-mod numbers; // numbers.rt: a byte put, a number read
+mod numbers; // numbers.rt: a byte put
 mod text; // text.rt: text and decimal numbers
 mod lines; // lines.rt: the listing's lines
 mod purses; // purses.rt: the purse lines and the last line

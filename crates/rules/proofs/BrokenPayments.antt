@@ -6,6 +6,7 @@ use mathlib.Core.Path.{_≡_, refl}
 use mathlib.Core.Bool.{true}
 use mathlib.Core.List.{List, [], _∷_, _++_, map}
 use lib.ListN.{length}
+use Rattle.bytes.specs.Bytes.{numberAt}
 use Rattle.purse.specs.declared.Details.{Details}
 use Rattle.purse.specs.declared.Message.{Message}
 use Rattle.purse.specs.declared.Purse.{Purse}
@@ -141,7 +142,7 @@ pub record Worked : Type 0 where
   pub crossed-claims : claims (run start collected) ≡ 0
 
 pub worked : Worked
-unfolding sameDetails legal named asPayer asPayee entryOk absent idleOk busyOk placeOk logOk wellFormed startNumber fromNumber toNumber expected deliverNumber abortNumber collectNumber startFrom startTo deliverTo abortBy collectBy sameMessage countsOk inTable purseOk messageOk archiveOk onceOk clearOk tableOk decoded acting step claims movedBy
+unfolding sameDetails legal named asPayer asPayee entryOk absent idleOk busyOk placeOk logOk wellFormed startNumber fromNumber toNumber expected deliverNumber abortNumber collectNumber startFrom startTo deliverTo abortBy collectBy sameMessage countsOk inTable purseOk messageOk archiveOk onceOk clearOk tableOk decoded numberAt acting step claims movedBy
 worked =
     record {
       taken-balances = refl;

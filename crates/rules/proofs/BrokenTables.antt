@@ -5,6 +5,7 @@ use Prim.Native.Nat.{ℕ}
 use mathlib.Core.Path.{_≡_, refl}
 use mathlib.Core.List.{List, [], _∷_, map}
 use lib.ListN.{length, replicate}
+use Rattle.bytes.specs.Bytes.{numberAt}
 use Rattle.purse.specs.declared.Details.{Details}
 use Rattle.purse.specs.declared.Message.{Message}
 use Rattle.purse.specs.declared.Purse.{Purse}
@@ -201,5 +202,5 @@ pub record Felt : Type 0 where
   pub held-break : map heldAnswer heldBroken ≡ replicate (length heldBroken) 2
 
 pub felt : Felt
-unfolding sameDetails legal named asPayer asPayee entryOk absent idleOk busyOk placeOk logOk wellFormed sameMessage sameEntry countsOk inTable purseOk messageOk archiveOk onceOk clearOk tableOk decoded acting step isZeroPurse isZeroMessage isZeroEntry heldOk heldStep
+unfolding sameDetails legal named asPayer asPayee entryOk absent idleOk busyOk placeOk logOk wellFormed sameMessage sameEntry countsOk inTable purseOk messageOk archiveOk onceOk clearOk tableOk decoded numberAt acting step isZeroPurse isZeroMessage isZeroEntry heldOk heldStep
 felt = record { obey = refl; break = refl; held-obey = refl; held-break = refl }

@@ -3,6 +3,7 @@
 use Prim.Native.Nat.{ℕ, zero, suc}
 use mathlib.Core.Path.{_≡_, refl}
 use mathlib.Core.List.{List, [], _∷_, map}
+use Rattle.bytes.specs.Bytes.{numberAt}
 use Rattle.purse.specs.declared.Message.{Message}
 use Rattle.purse.specs.Lists.{padded}
 use Rattle.purse.specs.Details.{zeroDetails, sameDetails, sameMessage, legal, named, asPayer, asPayee, entryOk, absent}
@@ -54,7 +55,7 @@ cases =
     ∷ []
 
 pub edges : map (λ (c : Case). step (c .bench) (c .event) .answer) cases ≡ map (λ (c : Case). c .number) cases
-unfolding sameDetails legal named asPayer asPayee entryOk absent idleOk busyOk placeOk logOk wellFormed startNumber fromNumber toNumber expected deliverNumber abortNumber collectNumber startFrom startTo deliverTo abortBy collectBy sameMessage countsOk inTable purseOk messageOk archiveOk onceOk clearOk tableOk decoded acting step
+unfolding sameDetails legal named asPayer asPayee entryOk absent idleOk busyOk placeOk logOk wellFormed startNumber fromNumber toNumber expected deliverNumber abortNumber collectNumber startFrom startTo deliverTo abortBy collectBy sameMessage countsOk inTable purseOk messageOk archiveOk onceOk clearOk tableOk decoded numberAt acting step
 edges = refl
 
 -- the lines that document 01 has run and compared: here computed too, with an archive that is full
@@ -105,5 +106,5 @@ further =
     ∷ []
 
 pub further-edges : map (λ (c : Case). step (c .bench) (c .event) .answer) further ≡ map (λ (c : Case). c .number) further
-unfolding sameDetails legal named asPayer asPayee entryOk absent idleOk busyOk placeOk logOk wellFormed startNumber fromNumber toNumber expected deliverNumber abortNumber collectNumber startFrom startTo deliverTo abortBy collectBy sameMessage countsOk inTable purseOk messageOk archiveOk onceOk clearOk tableOk decoded acting step
+unfolding sameDetails legal named asPayer asPayee entryOk absent idleOk busyOk placeOk logOk wellFormed startNumber fromNumber toNumber expected deliverNumber abortNumber collectNumber startFrom startTo deliverTo abortBy collectBy sameMessage countsOk inTable purseOk messageOk archiveOk onceOk clearOk tableOk decoded numberAt acting step
 further-edges = refl

@@ -4,6 +4,7 @@ use Prim.Native.Nat.{ℕ}
 use mathlib.Core.Path.{_≡_, refl}
 use mathlib.Core.List.{List, [], _∷_, map}
 use lib.ListN.{length}
+use Rattle.bytes.specs.Bytes.{numberAt}
 use Rattle.purse.specs.declared.Purse.{Purse}
 use Rattle.purse.specs.Details.{sameDetails, sameMessage, legal, named, asPayer, asPayee, entryOk, absent}
 use Rattle.purse.specs.Purse.{idleOk, busyOk, placeOk, logOk, wellFormed}
@@ -51,7 +52,7 @@ pub record Listing : Type 0 where
   pub last : lastLine (run start events) ≡ 2 ∷ 2 ∷ 300 ∷ []
 
 pub listing : Listing
-unfolding sameDetails legal named asPayer asPayee entryOk absent idleOk busyOk placeOk logOk wellFormed startNumber fromNumber toNumber expected deliverNumber abortNumber collectNumber startFrom startTo deliverTo abortBy collectBy sameMessage countsOk inTable purseOk messageOk archiveOk onceOk clearOk tableOk decoded acting step openingNumber claims
+unfolding sameDetails legal named asPayer asPayee entryOk absent idleOk busyOk placeOk logOk wellFormed startNumber fromNumber toNumber expected deliverNumber abortNumber collectNumber startFrom startTo deliverTo abortBy collectBy sameMessage countsOk inTable purseOk messageOk archiveOk onceOk clearOk tableOk decoded numberAt acting step openingNumber claims
 listing = record { opens = refl; answered = refl; lines = refl; last = refl }
 
 -- the table and the desk after the last event
@@ -65,5 +66,5 @@ pub record HeldListing : Type 0 where
   pub owed : heldClaims end ≡ record { answer = 0; claims = 300 }
 
 pub held-listing : HeldListing
-unfolding sameDetails legal named asPayer asPayee entryOk absent idleOk busyOk placeOk logOk wellFormed startNumber fromNumber toNumber expected deliverNumber abortNumber collectNumber startFrom startTo deliverTo abortBy collectBy sameMessage countsOk inTable purseOk messageOk archiveOk onceOk clearOk tableOk decoded acting step claims sameEntry isZeroPurse isZeroMessage isZeroEntry heldOk heldStep heldClaims
+unfolding sameDetails legal named asPayer asPayee entryOk absent idleOk busyOk placeOk logOk wellFormed startNumber fromNumber toNumber expected deliverNumber abortNumber collectNumber startFrom startTo deliverTo abortBy collectBy sameMessage countsOk inTable purseOk messageOk archiveOk onceOk clearOk tableOk decoded numberAt acting step claims sameEntry isZeroPurse isZeroMessage isZeroEntry heldOk heldStep heldClaims
 held-listing = record { answered = refl; lines = refl; counts = refl; owed = refl }

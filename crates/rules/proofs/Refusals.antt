@@ -10,6 +10,7 @@ use lib.ListN.{length, getD, set}
 use lib.Seq.{getD-set-other}
 use lib.Dec.{ltb, leb, eqb}
 use native.Mathlib.Omega.{arith}
+use Rattle.bytes.specs.Bytes.{numberAt}
 use Rattle.purse.specs.declared.Name.{Name}
 use Rattle.purse.specs.declared.Seq.{Seq}
 use Rattle.purse.specs.declared.Amount.{Amount}
@@ -26,7 +27,7 @@ use Rattle.rules.specs.declared.Event.{Event}
 use Rattle.rules.specs.declared.Event.the-variants.{Malformed, StartFrom, StartTo, Deliver, Abort, Lose, Collect}
 use Rattle.rules.specs.Bench.{Bench, called, purseAt, messageAt}
 use Rattle.rules.specs.Table.{tableOk}
-use Rattle.rules.specs.Events.{number, decodedAs, decoded}
+use Rattle.rules.specs.Events.{decodedAs, decoded}
 use Rattle.rules.specs.Steps.{Answer, refused, withMessages, carried, archiving, told, noPurse, noMessage, starting, delivering, acting, step}
 
 -- an event of any kind, by its purse
@@ -91,7 +92,7 @@ module _ (b : Bench) (T : Answer → Type 0) (no : (n : ℕ) → T (refused n b)
       ⊎-elim
       (λ (e : (eqb (length l) 12 && eqb (getD l 3 0) 0) ≡ true).
       rw e
-      (by-kind (λ (v : Event). T (acting b v)) (getD l 0 0) (getD l 1 0) (getD l 2 0) (number l 4) (number l 8)
+      (by-kind (λ (v : Event). T (acting b v)) (getD l 0 0) (getD l 1 0) (getD l 2 0) (numberAt 4 l 4) (numberAt 4 l 8)
       (no 3)
       (λ o s a. starting-by (getD l 1 0) (o .0) (card.StartFrom o s a) put)
       (λ o s a. starting-by (getD l 1 0) (o .0) (card.StartTo o s a) put)

@@ -10,6 +10,7 @@ use lib.ListN.{length, List·getD-eq-default, length-set}
 use lib.Dec.{ltb, eqb}
 use native.Mathlib.Omega.{arith}
 use borrow.Author.Tests.{ltb-true, ltb-false, eqb-true, lt-leb, le-leb, le-ltb}
+use Rattle.bytes.specs.Bytes.{numberAt}
 use Rattle.purse.specs.declared.Details.{Details}
 use Rattle.purse.specs.declared.Purse.{Purse}
 use Rattle.purse.specs.Step.{abortNumber, abortBy, aborted, stopped, taken}
@@ -59,14 +60,14 @@ aborted-idle q =
 
 -- an abort at a purse of a well-formed table
 pub abort-step : (b : Bench) (p : ℕ) → tableOk b ≡ true → p < length (b .purses) → step b (abortOf p) ≡ record { answer = 0; bench = withPurse b p (aborted (purseAt b p)) }
-unfolding step decoded acting abortBy abortNumber
+unfolding step decoded numberAt acting abortBy abortNumber
 abort-step b p w hp =
     let t : Table b = is-table b w in
     rw (w, lt-leb (length (b .purses)) p hp, t .well p hp, le-ltb 31 p (omega (arith, t .few)))
 
 -- an abort at no purse of the table changes nothing
 abort-none : (b : Bench) (p : ℕ) → tableOk b ≡ true → length (b .purses) ≤ p → step b (abortOf p) .bench ≡ b
-unfolding step decoded acting
+unfolding step decoded numberAt acting
 abort-none b p w hp = rw (w, le-leb (length (b .purses)) p hp)
 
 -- idle stays idle

@@ -1,16 +1,13 @@
 -- "An event is 12 bytes, numbers big-endian: kind, purse, counterparty, spare (0), number (4), amount (4)."
-use Prim.Native.Nat.{ℕ, _+_, _*_}
+use Prim.Native.Nat.{ℕ}
 use mathlib.Core.Bool.{Bool, _&&_, cond}
 use mathlib.Core.List.{List}
 use lib.ListN.{length, getD}
 use lib.Dec.{eqb}
+use Rattle.bytes.specs.Bytes.{numberAt}
 use Rattle.rules.specs.declared.Event.{Event}
 use Rattle.rules.specs.declared.Event.the-variants.{Malformed, StartFrom, StartTo, Deliver, Abort, Lose, Collect}
 use Rattle.rules.specs.Bench.{called}
-
--- four bytes from a place on, big-endian
-abbrev pub number : List ℕ → ℕ → ℕ
-number l i = ((getD l i 0 * 256 + getD l (i + 1) 0) * 256 + getD l (i + 2) 0) * 256 + getD l (i + 3) 0
 
 -- "Fields a kind doesn't use are 0: counterparty and amount outside starts, number in abort and collect, purse in lose";
 -- kinds "0 and 7 to 255 are malformed"
@@ -28,5 +25,5 @@ decodedAs kind purse other num amount =
 unfoldable pub decoded : List ℕ → Event
 decoded l =
     cond (eqb (length l) 12 && eqb (getD l 3 0) 0)
-    (decodedAs (getD l 0 0) (getD l 1 0) (getD l 2 0) (number l 4) (number l 8))
+    (decodedAs (getD l 0 0) (getD l 1 0) (getD l 2 0) (numberAt 4 l 4) (numberAt 4 l 8))
     Malformed

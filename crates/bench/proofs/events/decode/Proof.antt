@@ -1,6 +1,8 @@
 -- `bench::events::decode` meets its contract: length and spare byte first, then the fields.
 -- Assumes nothing.
+use native.Mathlib.Omega.{arith}
 use borrow.Author.Tests.{eq-eqb, ne-eqb}
+use Rattle.bytes.proofs.Numbers.{number-there}
 use Rattle.rules.specs.Events.{decoded}
 use borrow.Author.Needs.{needs}
 use Rattle.bench.proofs.events.decode.Statement.{statement}
@@ -17,11 +19,11 @@ returns-2 : tie.Need-returns-2
 unfolding decoded
 returns-2 c = simp (eq-eqb _ 12 (c .before .before .if1 .left), ne-eqb _ 0 (c .if2 .taken))
 
-number-requires : tie.Need-number-requires
-number-requires c κs = search needs
+number-at-requires : tie.Need-number-at-requires
+number-at-requires c κs = search needs
 
-number-requires-2 : tie.Need-number-requires-2
-number-requires-2 c κs = search needs
+number-at-requires-2 : tie.Need-number-at-requires-2
+number-at-requires-2 c κs = search needs
 
 shared-slice-read-fields : tie.Need-shared-slice-read-fields
 shared-slice-read-fields c = search needs
@@ -39,7 +41,11 @@ returns-3 : tie.Need-returns-3
 unfolding decoded
 returns-3 c =
     let no-spare = c .before .before .before .before .before .before in
-    simp (eq-eqb _ 12 (no-spare .before .before .if1 .left), eq-eqb _ 0 (no-spare .if2 .left)) cc
+    let whole = no-spare .before .before .if1 .left in
+    let l = no-spare .before .before .before .before .args .event .now in
+    let num = number-there l 4 (omega arith) in
+    let amount = number-there l 8 (omega arith) in
+    simp (eq-eqb _ 12 whole, eq-eqb _ 0 (no-spare .if2 .left)) cc
 
 pub decode-spec : {M : Type 1} → statement M
 decode-spec =
@@ -48,8 +54,8 @@ decode-spec =
     returns
     shared-slice-read-if2
     returns-2
-    number-requires
-    number-requires-2
+    number-at-requires
+    number-at-requires-2
     shared-slice-read-fields
     shared-slice-read-fields-2
     shared-slice-read-fields-3

@@ -3,6 +3,7 @@
 use mathlib.Core.Path.{_∙_}
 use lib.ListN.{length}
 use borrow.Author.Tests.{lt-ltb, le-ltb}
+use Rattle.layout.specs.Widths.{headWidth}
 use Rattle.layout.proofs.Heads.{later}
 use borrow.Author.Needs.{needs}
 use Rattle.image.proofs.head.head_number.Statement.{statement}
@@ -66,7 +67,7 @@ returns-2 c =
       messages .get-count2 .ensures,
       version .get-count .ensures,
     )
-    (later l (le-ltb (length l) 10 (long .if1 .left)))
+    (later l (le-ltb (length l) headWidth (long .if1 .left)))
 
 pub head-number-spec : {M : Type 1} → statement M
 head-number-spec =

@@ -2,25 +2,25 @@
 -- Assumes nothing.
 use native.Mathlib.Omega.{arith}
 use native.Mathlib.Nat.{add-zero}
-use Rattle.layout.specs.Bytes.{numberAt}
+use Rattle.bytes.specs.Bytes.{numberAt}
 use borrow.Author.Needs.{needs}
 use Rattle.image.proofs.numbers.get_count.Statement.{statement}
 use Rattle.image.proofs.numbers.get_count.Tie as tie
 
-shared-slice-read-wide-count : tie.Need-shared-slice-read-wide-count
-shared-slice-read-wide-count c = search needs
+shared-slice-read-wide : tie.Need-shared-slice-read-wide
+shared-slice-read-wide c = search needs
 
-wide-count-requires : tie.Need-wide-count-requires
-wide-count-requires c κs = search needs
+wide-requires : tie.Need-wide-requires
+wide-requires c κs = search needs
 
-add-wide-count : tie.Need-add-wide-count
-add-wide-count c = search needs
+add-wide : tie.Need-add-wide
+add-wide c = search needs
 
-shared-slice-read-wide-count-2 : tie.Need-shared-slice-read-wide-count-2
-shared-slice-read-wide-count-2 c = search needs
+shared-slice-read-wide-2 : tie.Need-shared-slice-read-wide-2
+shared-slice-read-wide-2 c = search needs
 
-wide-count-requires-2 : tie.Need-wide-count-requires-2
-wide-count-requires-2 c κs = search needs
+wide-requires-2 : tie.Need-wide-requires-2
+wide-requires-2 c κs = search needs
 
 mul-result : tie.Need-mul-result
 mul-result c = search needs
@@ -36,11 +36,11 @@ pub get-count-spec : {M : Type 1} → statement M
 get-count-spec =
     tie.close
     (tie.spec
-    shared-slice-read-wide-count
-    wide-count-requires
-    add-wide-count
-    shared-slice-read-wide-count-2
-    wide-count-requires-2
+    shared-slice-read-wide
+    wide-requires
+    add-wide
+    shared-slice-read-wide-2
+    wide-requires-2
     mul-result
     add-result
     returns)

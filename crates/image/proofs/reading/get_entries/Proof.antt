@@ -6,15 +6,16 @@ use mathlib.Core.List.{List}
 use native.Mathlib.Omega.{arith}
 use Rattle.desk.specs.declared.Entry.{Entry}
 use Rattle.desk.specs.Desk.{zeroEntry}
+use Rattle.layout.specs.Widths.{entryWidth}
 use Rattle.layout.specs.Records.{entryAt}
-use Rattle.image.proofs.Gets.{Filled, filled-none, filled-more, filled-all}
+use Rattle.bytes.proofs.Gets.{Filled, filled-none, filled-more, filled-all}
 use borrow.Author.Needs.{needs}
 use Rattle.image.proofs.reading.get_entries.Statement.{statement}
 use Rattle.image.proofs.reading.get_entries.Tie as tie
 
 abbrev Inv-loop : tie.InvT-loop
 Inv-loop s at count n places₀ i₀ from₀ places i from =
-    (i ≤ n) × Filled entryAt 15 s at 256 zeroEntry places i from
+    (i ≤ n) × Filled entryAt entryWidth s at 256 zeroEntry places i from
 
 abbrev μ-loop : tie.MeasureT-loop
 μ-loop s at count n places₀ i₀ from₀ places i from = n - i
@@ -48,7 +49,7 @@ loop-again c =
     let at-loop = c .before .before in
     let args = at-loop .before .before .before .args in (
       omega arith,
-      filled-more entryAt 15 (args .s .now) (args .at) 256 zeroEntry (at-loop .loop .i) (omega arith) (at-loop .loop .inv .1) (c .get-entry .ensures),
+      filled-more entryAt entryWidth (args .s .now) (args .at) 256 zeroEntry (at-loop .loop .i) (omega arith) (at-loop .loop .inv .1) (c .get-entry .ensures),
     )
 
 returns : tie.Need-returns Inv-loop μ-loop
@@ -56,7 +57,7 @@ returns c =
     let at-loop = c .before in
     let args = at-loop .before .before .before .args in
     ap (λ (xs : List Entry). record { places = xs; count = args .count })
-    (filled-all entryAt 15 (args .s .now) (args .at) 256 zeroEntry (args .count) (omega arith) (at-loop .loop .inv .1))
+    (filled-all entryAt entryWidth (args .s .now) (args .at) 256 zeroEntry (args .count) (omega arith) (at-loop .loop .inv .1))
 
 pub get-entries-spec : {M : Type 1} → statement M
 get-entries-spec =

@@ -6,15 +6,16 @@ use mathlib.Core.List.{List}
 use native.Mathlib.Omega.{arith}
 use Rattle.purse.specs.declared.Message.{Message}
 use Rattle.purse.specs.Details.{zeroMessage}
+use Rattle.layout.specs.Widths.{messageWidth}
 use Rattle.layout.specs.Records.{messageAt}
-use Rattle.image.proofs.Gets.{Filled, filled-none, filled-more, filled-all}
+use Rattle.bytes.proofs.Gets.{Filled, filled-none, filled-more, filled-all}
 use borrow.Author.Needs.{needs}
 use Rattle.image.proofs.reading.get_messages.Statement.{statement}
 use Rattle.image.proofs.reading.get_messages.Tie as tie
 
 abbrev Inv-loop : tie.InvT-loop
 Inv-loop s at count n places₀ i₀ from₀ places i from =
-    (i ≤ n) × Filled messageAt 15 s at 256 zeroMessage places i from
+    (i ≤ n) × Filled messageAt messageWidth s at 256 zeroMessage places i from
 
 abbrev μ-loop : tie.MeasureT-loop
 μ-loop s at count n places₀ i₀ from₀ places i from = n - i
@@ -48,7 +49,7 @@ loop-again c =
     let at-loop = c .before .before in
     let args = at-loop .before .before .before .args in (
       omega arith,
-      filled-more messageAt 15 (args .s .now) (args .at) 256 zeroMessage (at-loop .loop .i) (omega arith) (at-loop .loop .inv .1) (c .get-message .ensures),
+      filled-more messageAt messageWidth (args .s .now) (args .at) 256 zeroMessage (at-loop .loop .i) (omega arith) (at-loop .loop .inv .1) (c .get-message .ensures),
     )
 
 returns : tie.Need-returns Inv-loop μ-loop
@@ -56,7 +57,7 @@ returns c =
     let at-loop = c .before in
     let args = at-loop .before .before .before .args in
     ap (λ (xs : List Message). record { places = xs; count = args .count })
-    (filled-all messageAt 15 (args .s .now) (args .at) 256 zeroMessage (args .count) (omega arith) (at-loop .loop .inv .1))
+    (filled-all messageAt messageWidth (args .s .now) (args .at) 256 zeroMessage (args .count) (omega arith) (at-loop .loop .inv .1))
 
 pub get-messages-spec : {M : Type 1} → statement M
 get-messages-spec =

@@ -3,15 +3,16 @@
 use Prim.Native.Nat.{_≤_, _-_}
 use native.Mathlib.Omega.{arith}
 use Rattle.purse.specs.Purse.{zeroPurse}
+use Rattle.layout.specs.Widths.{purseWidth}
 use Rattle.layout.specs.Records.{purseAt}
-use Rattle.image.proofs.Gets.{Filled, filled-none, filled-more, filled-all}
+use Rattle.bytes.proofs.Gets.{Filled, filled-none, filled-more, filled-all}
 use borrow.Author.Needs.{needs}
 use Rattle.image.proofs.reading.get_purses.Statement.{statement}
 use Rattle.image.proofs.reading.get_purses.Tie as tie
 
 abbrev Inv-loop : tie.InvT-loop
 Inv-loop s at count n table₀ i₀ from₀ table i from =
-    (i ≤ n) × Filled purseAt 136 s at 32 zeroPurse table i from
+    (i ≤ n) × Filled purseAt purseWidth s at 32 zeroPurse table i from
 
 abbrev μ-loop : tie.MeasureT-loop
 μ-loop s at count n table₀ i₀ from₀ table i from = n - i
@@ -45,14 +46,14 @@ loop-again c =
     let at-loop = c .before .before in
     let args = at-loop .before .before .before .args in (
       omega arith,
-      filled-more purseAt 136 (args .s .now) (args .at) 32 zeroPurse (at-loop .loop .i) (omega arith) (at-loop .loop .inv .1) (c .get-purse .ensures),
+      filled-more purseAt purseWidth (args .s .now) (args .at) 32 zeroPurse (at-loop .loop .i) (omega arith) (at-loop .loop .inv .1) (c .get-purse .ensures),
     )
 
 returns : tie.Need-returns Inv-loop μ-loop
 returns c =
     let at-loop = c .before in
     let args = at-loop .before .before .before .args in
-    filled-all purseAt 136 (args .s .now) (args .at) 32 zeroPurse (args .count) (omega arith) (at-loop .loop .inv .1)
+    filled-all purseAt purseWidth (args .s .now) (args .at) 32 zeroPurse (args .count) (omega arith) (at-loop .loop .inv .1)
 
 pub get-purses-spec : {M : Type 1} → statement M
 get-purses-spec =

@@ -3,14 +3,15 @@
 use Prim.Native.Nat.{_≤_, _-_}
 use native.Mathlib.Omega.{arith}
 use Rattle.purse.specs.Details.{zeroDetails}
+use Rattle.layout.specs.Widths.{detailsWidth}
 use Rattle.layout.specs.Records.{detailsAt}
-use Rattle.image.proofs.Gets.{Filled, filled-none, filled-more, filled-full}
+use Rattle.bytes.proofs.Gets.{Filled, filled-none, filled-more, filled-full}
 use borrow.Author.Needs.{needs}
 use Rattle.image.proofs.records.get_log.Statement.{statement}
 use Rattle.image.proofs.records.get_log.Tie as tie
 
 abbrev Inv-loop : tie.InvT-loop
-Inv-loop s at log₀ i₀ from₀ log i from = (i ≤ 8) × Filled detailsAt 14 s at 8 zeroDetails log i from
+Inv-loop s at log₀ i₀ from₀ log i from = (i ≤ 8) × Filled detailsAt detailsWidth s at 8 zeroDetails log i from
 
 abbrev μ-loop : tie.MeasureT-loop
 μ-loop s at log₀ i₀ from₀ log i from = 8 - i
@@ -44,14 +45,14 @@ loop-again c =
     let at-loop = c .before .before in
     let args = at-loop .before .before .before .args in (
       omega arith,
-      filled-more detailsAt 14 (args .s .now) (args .at) 8 zeroDetails (at-loop .loop .i) (omega arith) (at-loop .loop .inv .1) (c .get-details .ensures),
+      filled-more detailsAt detailsWidth (args .s .now) (args .at) 8 zeroDetails (at-loop .loop .i) (omega arith) (at-loop .loop .inv .1) (c .get-details .ensures),
     )
 
 returns : tie.Need-returns Inv-loop μ-loop
 returns c =
     let at-loop = c .before in
     let args = at-loop .before .before .before .args in
-    filled-full detailsAt 14 (args .s .now) (args .at) 8 zeroDetails (omega arith) (at-loop .loop .inv .1)
+    filled-full detailsAt detailsWidth (args .s .now) (args .at) 8 zeroDetails (omega arith) (at-loop .loop .inv .1)
 
 pub get-log-spec : {M : Type 1} → statement M
 get-log-spec =

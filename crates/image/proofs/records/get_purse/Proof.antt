@@ -1,18 +1,21 @@
 -- `image::records::get_purse` meets its contract. Each field is read where the definition reads it.
 -- Assumes nothing.
+use Prim.Native.Nat.{_+_}
+use native.Mathlib.Omega.{arith}
+use Rattle.bytes.proofs.Numbers.{number-there}
 use Rattle.layout.specs.Records.{purseAt}
 use borrow.Author.Needs.{needs}
 use Rattle.image.proofs.records.get_purse.Statement.{statement}
 use Rattle.image.proofs.records.get_purse.Tie as tie
 
-get-number-requires : tie.Need-get-number-requires
-get-number-requires c κs = search needs
+number-at-requires : tie.Need-number-at-requires
+number-at-requires c κs = search needs
 
-add-get-number : tie.Need-add-get-number
-add-get-number c = search needs
+add-number-at : tie.Need-add-number-at
+add-number-at c = search needs
 
-get-number-requires-2 : tie.Need-get-number-requires-2
-get-number-requires-2 c κs = search needs
+number-at-requires-2 : tie.Need-number-at-requires-2
+number-at-requires-2 c κs = search needs
 
 add-status : tie.Need-add-status
 add-status c = search needs
@@ -40,15 +43,21 @@ get-log-requires c κs = search needs
 
 returns : tie.Need-returns
 unfolding purseAt
-returns c = cc
+returns c =
+    let start = c .before .before .before .before .before .before .before in
+    let l = start .args .s .now in
+    let at = start .args .at in
+    let balance = number-there l at (omega arith) in
+    let next = number-there l (at + 4) (omega arith) in
+    cc
 
 pub get-purse-spec : {M : Type 1} → statement M
 get-purse-spec =
     tie.close
     (tie.spec
-    get-number-requires
-    add-get-number
-    get-number-requires-2
+    number-at-requires
+    add-number-at
+    number-at-requires-2
     add-status
     shared-slice-read-status
     add-logged

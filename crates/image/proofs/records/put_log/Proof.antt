@@ -6,14 +6,15 @@ use lib.ListN.{length, take}
 use lib.Seq.{take-all}
 use native.Mathlib.Omega.{arith}
 use Rattle.purse.specs.Details.{zeroDetails}
+use Rattle.layout.specs.Widths.{detailsWidth}
 use Rattle.layout.specs.Records.{detailsBytes}
-use Rattle.image.proofs.Puts.{Wrote, wrote-none, wrote-more, wrote-all}
+use Rattle.bytes.proofs.Puts.{Wrote, wrote-none, wrote-more, wrote-all}
 use borrow.Author.Needs.{needs}
 use Rattle.image.proofs.records.put_log.Statement.{statement}
 use Rattle.image.proofs.records.put_log.Tie as tie
 
 abbrev Inv-loop : tie.InvT-loop
-Inv-loop out₀ at log i₀ to₀ out i to = (i ≤ 8) × Wrote detailsBytes 14 out₀ at log out i to
+Inv-loop out₀ at log i₀ to₀ out i to = (i ≤ 8) × Wrote detailsBytes detailsWidth out₀ at log out i to
 
 abbrev μ-loop : tie.MeasureT-loop
 μ-loop out₀ at log i₀ to₀ out i to = 8 - i
@@ -44,7 +45,7 @@ loop-again c =
     let log = args .t3 in
     let long : length log ≡ 8 = search needs in (
       omega arith,
-      wrote-more detailsBytes 14 (args .out .now) (args .at) log (at-loop .loop .i) zeroDetails (omega arith) (at-loop .loop .inv .1)
+      wrote-more detailsBytes detailsWidth (args .out .now) (args .at) log (at-loop .loop .i) zeroDetails (omega arith) (at-loop .loop .inv .1)
           (called .put-details .ensures .2) (called .put-details .ensures .1) (called .put-details .ensures .0),
     )
 
@@ -58,7 +59,7 @@ returns c =
     let log = args .t3 in
     let long : length log ≡ 8 = search needs in
     let all : take 8 log ≡ log = take-all 8 log (omega arith) in
-    rw all at (wrote-all detailsBytes 14 (args .out .now) (args .at) log 8 (omega arith) (at-loop .loop .inv .1))
+    rw all at (wrote-all detailsBytes detailsWidth (args .out .now) (args .at) log 8 (omega arith) (at-loop .loop .inv .1))
 
 pub put-log-spec : {M : Type 1} → statement M
 put-log-spec =

@@ -4,8 +4,9 @@ use Prim.Native.Nat.{_≤_, _-_}
 use mathlib.Core.Path.{_≡_}
 use lib.ListN.{length}
 use native.Mathlib.Omega.{arith}
+use Rattle.layout.specs.Widths.{purseWidth}
 use Rattle.layout.specs.Records.{purseBytes}
-use Rattle.image.proofs.Puts.{Wrote, wrote-none, wrote-more, wrote-all}
+use Rattle.bytes.proofs.Puts.{Wrote, wrote-none, wrote-more, wrote-all}
 use Rattle.image.proofs.Past.{pastPurse}
 use borrow.Author.Needs.{needs}
 use Rattle.image.proofs.writing.put_purses.Statement.{statement}
@@ -13,7 +14,7 @@ use Rattle.image.proofs.writing.put_purses.Tie as tie
 
 abbrev Inv-loop : tie.InvT-loop
 Inv-loop out₀ at count table n i₀ to₀ out i to =
-    (i ≤ n) × Wrote purseBytes 136 out₀ at table out i to
+    (i ≤ n) × Wrote purseBytes purseWidth out₀ at table out i to
 
 abbrev μ-loop : tie.MeasureT-loop
 μ-loop out₀ at count table n i₀ to₀ out i to = n - i
@@ -45,7 +46,7 @@ loop-again c =
     let xs = args .t3 in
     let long : length xs ≡ 32 = search needs in (
       omega arith,
-      wrote-more purseBytes 136 (args .out .now) (args .at) xs (at-loop .loop .i) pastPurse (omega arith) (at-loop .loop .inv .1)
+      wrote-more purseBytes purseWidth (args .out .now) (args .at) xs (at-loop .loop .i) pastPurse (omega arith) (at-loop .loop .inv .1)
           (called .put-purse .ensures .2) (called .put-purse .ensures .1) (called .put-purse .ensures .0),
     )
 
@@ -56,7 +57,7 @@ returns : tie.Need-returns Inv-loop μ-loop
 returns c =
     let at-loop = c .before in
     let args = at-loop .before .before .args in
-    wrote-all purseBytes 136 (args .out .now) (args .at) (args .t3) (args .count) (omega arith) (at-loop .loop .inv .1)
+    wrote-all purseBytes purseWidth (args .out .now) (args .at) (args .t3) (args .count) (omega arith) (at-loop .loop .inv .1)
 
 pub put-purses-spec : {M : Type 1} → statement M
 put-purses-spec =

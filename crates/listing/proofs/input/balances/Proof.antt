@@ -2,11 +2,12 @@
 -- Assumes nothing.
 use Prim.Native.Nat.{_≤_, _<_, _-_, _+_, _*_}
 use native.Mathlib.Omega.{arith}
-use mathlib.Core.Path.{_≡_, refl}
+use mathlib.Core.Path.{_≡_, refl, _∙_}
 use lib.ListN.{length, length-set}
-use Rattle.layout.specs.Bytes.{numberAt}
-use Rattle.layout.proofs.Coded.{length-many}
-use Rattle.image.proofs.Gets.{Filled, filled-none, filled-more, filled-all}
+use Rattle.bytes.specs.Bytes.{numberAt}
+use Rattle.bytes.proofs.Numbers.{number-there}
+use Rattle.bytes.proofs.Coded.{length-many}
+use Rattle.bytes.proofs.Gets.{Filled, filled-none, filled-more, filled-all}
 use borrow.Author.Needs.{needs}
 use Rattle.listing.proofs.input.balances.Statement.{statement}
 use Rattle.listing.proofs.input.balances.Tie as tie
@@ -21,8 +22,8 @@ abbrev μ-loop : tie.MeasureT-loop
 loop-holds : tie.Need-loop-holds Inv-loop μ-loop
 loop-holds c = (omega arith, omega arith, filled-none (numberAt 4) 4 _ 1 32 0 refl, refl)
 
-get-number-requires : tie.Need-get-number-requires Inv-loop μ-loop
-get-number-requires c κs = search needs
+number-at-requires : tie.Need-number-at-requires Inv-loop μ-loop
+number-at-requires c κs = search needs
 
 mul-all : tie.Need-mul-all Inv-loop μ-loop
 mul-all c = search needs
@@ -48,7 +49,7 @@ loop-again c =
     let below : i < 32 = omega arith in (
       omega arith,
       omega arith,
-      filled-more (numberAt 4) 4 l 1 32 0 i below (inv .2) (c .get-number .ensures),
+      filled-more (numberAt 4) 4 l 1 32 0 i below (inv .2) (c .number-at .ensures ∙ number-there l (at-loop .loop .from) (omega arith)),
       simp length-set (inv .3),
     )
 
@@ -67,7 +68,7 @@ balances-spec =
     Inv-loop
     μ-loop
     loop-holds
-    get-number-requires
+    number-at-requires
     mul-all
     array-write-all
     add-from

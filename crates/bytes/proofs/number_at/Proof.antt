@@ -1,11 +1,23 @@
--- `listing::numbers::get_number` meets its contract. Four bytes are the number's definition unfolded; each is below 256, so the sum fits.
+-- `bytes::number_at` meets its contract. Where the four bytes are there its sum is that of the definition, byte by byte; each is below 256,
+-- so the sum fits.
 -- Assumes nothing.
 use native.Mathlib.Omega.{arith}
 use native.Mathlib.Nat.{add-zero}
-use Rattle.layout.specs.Bytes.{numberAt}
+use mathlib.Core.Path.{sym, _∙_}
+use Rattle.bytes.specs.Bytes.{numberAt}
+use Rattle.bytes.proofs.Numbers.{number-there, number-missing}
 use borrow.Author.Needs.{needs}
-use Rattle.listing.proofs.numbers.get_number.Statement.{statement}
-use Rattle.listing.proofs.numbers.get_number.Tie as tie
+use Rattle.bytes.proofs.number_at.Statement.{statement}
+use Rattle.bytes.proofs.number_at.Tie as tie
+
+returns : tie.Need-returns
+returns c = sym (number-missing _ _ (omega arith))
+
+sub-if2 : tie.Need-sub-if2
+sub-if2 c = search needs
+
+returns-2 : tie.Need-returns-2
+returns-2 c = sym (number-missing _ _ (omega arith))
 
 shared-slice-read-wide : tie.Need-shared-slice-read-wide
 shared-slice-read-wide c = search needs
@@ -58,14 +70,17 @@ mul-result-3 c = search needs
 add-result-3 : tie.Need-add-result-3
 add-result-3 c = search needs
 
-returns : tie.Need-returns
+returns-3 : tie.Need-returns-3
 unfolding numberAt
-returns c = simp add-zero (omega arith)
+returns-3 c = simp add-zero (omega arith) ∙ sym (number-there _ _ (omega arith))
 
-pub get-number-spec : {M : Type 1} → statement M
-get-number-spec =
+pub number-at-spec : {M : Type 1} → statement M
+number-at-spec =
     tie.close
     (tie.spec
+    returns
+    sub-if2
+    returns-2
     shared-slice-read-wide
     wide-requires
     add-wide
@@ -83,4 +98,4 @@ get-number-spec =
     add-result-2
     mul-result-3
     add-result-3
-    returns)
+    returns-3)

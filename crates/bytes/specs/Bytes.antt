@@ -1,8 +1,10 @@
 -- Bytes: a number written with its highest byte first and read back, over the width; a list's elements one after the other; a buffer with
 -- other bytes from a place on.
-use Prim.Native.Nat.{ℕ, zero, suc, _+_, _*_, _/_, _%_}
+use Prim.Native.Nat.{ℕ, zero, suc, _+_, _*_, _/_, _%_, _<_}
+use mathlib.Core.Bool.{cond}
 use mathlib.Core.List.{List, [], _∷_, _++_}
-use lib.ListN.{getD}
+use lib.ListN.{length, getD}
+use lib.Dec.{leb}
 use lib.Seq.{sets}
 
 -- a buffer with the bytes vs from place i on
@@ -13,6 +15,7 @@ put l i vs = sets l i vs
 abbrev pub byte : ℕ → List ℕ
 byte b = b ∷ []
 
+-- the byte at a place, 0 past the end
 abbrev pub byteAt : List ℕ → ℕ → ℕ
 byteAt l at = getD l at 0
 
@@ -21,15 +24,28 @@ unfoldable pub big : ℕ → ℕ → List ℕ
 big zero n = []
 big (suc w) n = big w (n / 256) ++ (n % 256 ∷ [])
 
--- the number that w bytes at a place spell
+-- the number that w bytes at a place spell, the highest first
 unfoldable pub numberAt : ℕ → List ℕ → ℕ → ℕ
 numberAt zero l at = 0
 numberAt (suc w) l at = numberAt w l at * 256 + getD l (at + w) 0
+
+-- the number that four bytes at a place spell; 0 where they are not all there
+unfoldable pub numberIn : List ℕ → ℕ → ℕ
+numberIn l at = cond (leb (at + 4) (length l)) (numberAt 4 l at) 0
 
 -- how many numbers w bytes can spell
 abbrev pub room : ℕ → ℕ
 room zero = 1
 room (suc w) = room w * 256
+
+-- a number that w bytes can spell
+abbrev pub Below : ℕ → ℕ → Type 0
+Below w n = n < room w
+
+-- each element of a list has a property
+abbrev pub All : {A : Type 0} → (A → Type 0) → List A → Type 0
+All P [] = Unit
+All P (x ∷ xs) = P x × All P xs
 
 -- the bytes of each of a list, one after the other
 unfoldable pub flat : {A : Type 0} → (A → List ℕ) → List A → List ℕ

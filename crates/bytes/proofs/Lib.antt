@@ -1,0 +1,4 @@
+pub mod Coded
+pub mod Numbers
+pub mod Puts
+pub mod Gets
