@@ -15,8 +15,8 @@ use Rattle.purse.proofs.Bools.{which}
 use Rattle.purse.proofs.Tests.{passed}
 use Rattle.desk.specs.declared.Held.{Held}
 use Rattle.desk.specs.declared.Answered.{Answered}
-use Rattle.bytes.specs.Bytes.{put}
-use Rattle.bytes.proofs.Puts.{put-eq}
+use Rattle.bigendian.specs.Bytes.{put}
+use Rattle.bigendian.proofs.Puts.{put-eq}
 use Rattle.rules.specs.Laid.{heldOk}
 use Rattle.layout.specs.declared.Written.{Written}
 use Rattle.layout.specs.Head.{headTests, imageLength}

@@ -11,7 +11,7 @@ ghost use mathlib.Core.Path.{_≡_};
 ghost use Prim.Native.Nat.{_≤_, _<_};
 ghost use lib.ListN.{length};
 ghost use Rattle.purse.specs.Tests.{first};
-ghost use Rattle.bytes.specs.Bytes.{put};
+ghost use Rattle.bigendian.specs.Bytes.{put};
 ghost use Rattle.layout.specs.Widths.{headWidth};
 ghost use Rattle.layout.specs.Head.{headBytes, headTests, imageLength};
 

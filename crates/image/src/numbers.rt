@@ -1,8 +1,8 @@
-// Bytes, counts and numbers put, and a count read, the highest byte first. (A number is read by crate bytes.)
+// Bytes, counts and numbers put, and a count read, the highest byte first. (A number is read by crate bigendian.)
 ghost use mathlib.Core.Path.{_≡_};
 ghost use Prim.Native.Nat.{_+_, _≤_, _<_};
 ghost use lib.ListN.{length};
-ghost use Rattle.bytes.specs.Bytes.{put, byte, big, numberAt};
+ghost use Rattle.bigendian.specs.Bytes.{put, byte, big, numberAt};
 
 // One byte.
 pub fn put_byte(out: &mut [u8], at: usize, v: u8) -> usize

@@ -22,7 +22,7 @@ ghost use Rattle.purse.specs.Details.{zeroMessage};
 ghost use Rattle.purse.specs.Purse.{zeroPurse};
 ghost use Rattle.purse.specs.Tests.{first};
 ghost use Rattle.desk.specs.Desk.{zeroEntry};
-ghost use Rattle.bytes.specs.Bytes.{many};
+ghost use Rattle.bigendian.specs.Bytes.{many};
 ghost use Rattle.layout.specs.Widths.{purseWidth, messageWidth, entryWidth};
 ghost use Rattle.layout.specs.Records.{purseAt, messageAt, entryAt};
 ghost use Rattle.layout.specs.Head.{headTests};

@@ -2,7 +2,7 @@
 use crate::numbers::put_byte;
 use crate::numbers::put_number;
 use crate::widths::DETAILS_WIDTH;
-use bytes::number_at;
+use bigendian::number_at;
 use desk::Entry;
 use purse::Amount;
 use purse::Details;
@@ -13,7 +13,7 @@ use purse::Seq;
 ghost use mathlib.Core.Path.{_≡_};
 ghost use Prim.Native.Nat.{_+_, _≤_};
 ghost use lib.ListN.{length};
-ghost use Rattle.bytes.specs.Bytes.{put};
+ghost use Rattle.bigendian.specs.Bytes.{put};
 ghost use Rattle.layout.specs.Widths.{detailsWidth, logWidth, purseWidth, messageWidth, entryWidth};
 ghost use Rattle.layout.specs.Records.{detailsBytes, detailsAt, logBytes, logAt, purseBytes, purseAt, messageBytes, messageAt, entryBytes, entryAt};
 

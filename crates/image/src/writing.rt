@@ -12,7 +12,7 @@ ghost use mathlib.Core.Path.{_≡_};
 ghost use mathlib.Core.Bool.{true};
 ghost use Prim.Native.Nat.{_+_, _*_, _≤_};
 ghost use lib.ListN.{length, take};
-ghost use Rattle.bytes.specs.Bytes.{put, flat};
+ghost use Rattle.bigendian.specs.Bytes.{put, flat};
 ghost use Rattle.layout.specs.Widths.{purseWidth, messageWidth, entryWidth};
 ghost use Rattle.layout.specs.Records.{purseBytes, messageBytes, entryBytes};
 ghost use Rattle.rules.specs.Laid.{heldOk};

@@ -2,7 +2,7 @@
 -- Assumes nothing.
 use mathlib.Core.Path.{_≡_, refl}
 use mathlib.Core.List.{[], _∷_}
-use Rattle.bytes.specs.Bytes.{big}
+use Rattle.bigendian.specs.Bytes.{big}
 use Rattle.layout.specs.Head.{headBytes}
 use Rattle.layout.specs.Records.{detailsBytes}
 

@@ -11,7 +11,7 @@ use borrow.Author.Tests.{leb-true, eqb-true, not-false, le-ltb, le-leb, eq-eqb}
 use Rattle.purse.specs.Tests.{first, walked}
 use Rattle.purse.proofs.Bools.{and-l, and-r, and-i}
 use Rattle.purse.proofs.Tests.{passed, walks}
-use Rattle.bytes.specs.Bytes.{byteAt}
+use Rattle.bigendian.specs.Bytes.{byteAt}
 use Rattle.layout.specs.Widths.{headWidth}
 use Rattle.layout.specs.Head.{version, marked, versionIn, pursesIn, messagesIn, entriesIn, imageLength, countsIn, headTests}
 

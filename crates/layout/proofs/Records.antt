@@ -11,7 +11,7 @@ use Rattle.desk.specs.declared.Entry.{Entry}
 use Rattle.layout.specs.Records.{detailsBytes, detailsAt, purseBytes, purseAt, messageBytes, messageAt, entryBytes, entryAt}
 use Rattle.layout.specs.Widths.{detailsWidth, purseWidth, messageWidth, entryWidth}
 use Rattle.layout.specs.Fits.{FitDetails, FitPurse, FitMessage, FitEntry}
-use Rattle.bytes.proofs.Coded.{Coded, Any, any-all, byte-coded, number-coded, pair-coded, held-coded, many-coded}
+use Rattle.bigendian.proofs.Coded.{Coded, Any, any-all, byte-coded, number-coded, pair-coded, held-coded, many-coded}
 
 pub details-coded : Coded detailsBytes detailsAt detailsWidth Any FitDetails
 unfolding detailsBytes detailsAt

@@ -11,7 +11,7 @@ use Rattle.purse.proofs.Bools.{and-r}
 use Rattle.purse.proofs.Log.{log-long}
 use Rattle.purse.proofs.Rules.{wf-log}
 use Rattle.desk.specs.declared.Held.{Held}
-use Rattle.bytes.specs.Bytes.{All, flat}
+use Rattle.bigendian.specs.Bytes.{All, flat}
 use Rattle.layout.specs.Records.{purseBytes, messageBytes, entryBytes}
 use Rattle.layout.proofs.Records.{EightPlaces}
 use Rattle.rules.specs.Bench.{Bench, called, purseAt}

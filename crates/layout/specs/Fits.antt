@@ -4,7 +4,7 @@ use Rattle.purse.specs.declared.Details.{Details}
 use Rattle.purse.specs.declared.Message.{Message}
 use Rattle.purse.specs.declared.Purse.{Purse}
 use Rattle.desk.specs.declared.Entry.{Entry}
-use Rattle.bytes.specs.Bytes.{Below, All}
+use Rattle.bigendian.specs.Bytes.{Below, All}
 
 pub record FitDetails (d : Details) : Type 0 where
   pub payerseq : Below 4 (d .payerseq .0)

@@ -5,7 +5,7 @@ use mathlib.Core.List.{List, [], _∷_, _++_}
 use lib.ListN.{length}
 use lib.Dec.{ltb, leb, eqb}
 use Rattle.purse.specs.Tests.{Test, _⇒_}
-use Rattle.bytes.specs.Bytes.{byte, byteAt, big, numberAt}
+use Rattle.bigendian.specs.Bytes.{byte, byteAt, big, numberAt}
 use Rattle.layout.specs.Widths.{headWidth, purseWidth, messageWidth, entryWidth}
 
 -- "version 00 01"

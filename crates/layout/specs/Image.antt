@@ -2,7 +2,7 @@
 use Prim.Native.Nat.{ℕ}
 use mathlib.Core.List.{List, _++_}
 use lib.ListN.{length}
-use Rattle.bytes.specs.Bytes.{All, flat, many}
+use Rattle.bigendian.specs.Bytes.{All, flat, many}
 use Rattle.layout.specs.Widths.{headWidth, purseWidth, messageWidth, entryWidth}
 use Rattle.layout.specs.Fits.{FitPurse, FitMessage, FitEntry}
 use Rattle.layout.specs.Records.{purseBytes, purseAt, messageBytes, messageAt, entryBytes, entryAt}

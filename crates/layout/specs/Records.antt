@@ -6,7 +6,7 @@ use Rattle.purse.specs.declared.Details.{Details}
 use Rattle.purse.specs.declared.Message.{Message}
 use Rattle.purse.specs.declared.Purse.{Purse}
 use Rattle.desk.specs.declared.Entry.{Entry}
-use Rattle.bytes.specs.Bytes.{byte, byteAt, big, numberAt, flat, many}
+use Rattle.bigendian.specs.Bytes.{byte, byteAt, big, numberAt, flat, many}
 use Rattle.layout.specs.Widths.{detailsWidth}
 
 -- "Details: payer 1, its number 4, payee 1, its number 4, amount 4"

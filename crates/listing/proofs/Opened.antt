@@ -12,8 +12,8 @@ use borrow.Author.Tests.{lt-leb, le-leb, leb-true, leb-false}
 use lib.Seq.{take-all}
 use Rattle.purse.proofs.Bools.{which}
 use Rattle.purse.specs.Lists.{padded}
-use Rattle.bytes.specs.Bytes.{numberAt}
-use Rattle.bytes.proofs.Coded.{length-many}
+use Rattle.bigendian.specs.Bytes.{numberAt}
+use Rattle.bigendian.proofs.Coded.{length-many}
 use Rattle.listing.specs.Opening.{balancesAt, wholeOpening, balancesIn, openingIn}
 
 empty : (l : List ℕ) → length l < 1 → l ≡ []

@@ -9,8 +9,8 @@ use native.Mathlib.Omega.{arith}
 use mathlib.Core.List.{List, [], _∷_, _++_, append-assoc, append-nil}
 use lib.ListN.{length, take, getD, set, length-append}
 use lib.Seq.{take-suc}
-use Rattle.bytes.specs.Bytes.{put, byte}
-use Rattle.bytes.proofs.Puts.{then-put}
+use Rattle.bigendian.specs.Bytes.{put, byte}
+use Rattle.bigendian.proofs.Puts.{then-put}
 use Rattle.listing.specs.Text.{Written, Filled, numbered}
 
 -- nothing put

@@ -17,7 +17,7 @@ use Rattle.purse.proofs.Bools.{and-l, and-r, which}
 use Rattle.desk.specs.declared.Held.{Held}
 use Rattle.rules.specs.Laid.{heldRun, heldAnswers}
 use Rattle.bench.specs.Runs.{pieces}
-use Rattle.bytes.specs.Bytes.{numberAt, many}
+use Rattle.bigendian.specs.Bytes.{numberAt, many}
 use Rattle.listing.specs.Listing.{eventLine}
 use Rattle.listing.specs.Opening.{balanceBytes, balancesAt, wholeOpening, balancesIn}
 use Rattle.listing.specs.Piece.{eventsIn, pieceLines}

@@ -8,7 +8,7 @@ use Rattle.purse.specs.Details.{sameDetails, sameMessage, legal, named, asPayer
 use Rattle.purse.specs.Purse.{idleOk, busyOk, placeOk, logOk, wellFormed}
 use Rattle.purse.specs.Step.{startNumber, fromNumber, toNumber, expected, deliverNumber, abortNumber, collectNumber, startFrom, startTo, deliverTo, abortBy, collectBy}
 use Rattle.desk.specs.Desk.{sameEntry}
-use Rattle.bytes.specs.Bytes.{numberAt, many}
+use Rattle.bigendian.specs.Bytes.{numberAt, many}
 use Rattle.rules.specs.Table.{countsOk, inTable, purseOk, messageOk, archiveOk, onceOk, clearOk, tableOk}
 use Rattle.rules.specs.Events.{decoded}
 use Rattle.rules.specs.Steps.{acting, step}

@@ -5,7 +5,7 @@ use mathlib.Core.List.{List, []}
 use lib.ListN.{length, getD}
 use lib.Dec.{leb}
 use Rattle.purse.specs.Lists.{padded}
-use Rattle.bytes.specs.Bytes.{numberAt, many}
+use Rattle.bigendian.specs.Bytes.{numberAt, many}
 use Rattle.listing.specs.declared.Opening.{Opening}
 
 -- n balances of four bytes, one after the other

@@ -7,7 +7,7 @@ use lib.Dec.{leb, eqb}
 use Rattle.desk.specs.declared.Held.{Held}
 use Rattle.rules.specs.Laid.{heldRun, heldAnswers}
 use Rattle.bench.specs.Runs.{pieces}
-use Rattle.bytes.specs.Bytes.{put}
+use Rattle.bigendian.specs.Bytes.{put}
 use Rattle.listing.specs.declared.Listed.{Listed}
 use Rattle.listing.specs.Listing.{eventLines}
 

@@ -1,6 +1,6 @@
 // The input's opening bytes: purse count, then 4 bytes a balance.
 use crate::Opening;
-use bytes::number_at;
+use bigendian::number_at;
 ghost use mathlib.Core.Path.{_≡_};
 ghost use Prim.Native.Nat.{_+_, _*_, _≤_, _<_};
 ghost use lib.ListN.{length};

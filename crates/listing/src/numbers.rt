@@ -2,7 +2,7 @@
 ghost use mathlib.Core.Path.{_≡_};
 ghost use Prim.Native.Nat.{_+_, _≤_};
 ghost use lib.ListN.{length};
-ghost use Rattle.bytes.specs.Bytes.{put, byte};
+ghost use Rattle.bigendian.specs.Bytes.{put, byte};
 
 pub(crate) fn put_byte(out: &mut [u8], at: usize, v: u8) -> usize
     requires { ⌜ at + 1 ≤ length (now out) ⌝ }

@@ -5,7 +5,7 @@ use Prim.Native.Nat.{ℕ}
 use mathlib.Core.Path.{_≡_, refl}
 use mathlib.Core.List.{List, [], _∷_, map}
 use lib.ListN.{length, replicate}
-use Rattle.bytes.specs.Bytes.{numberAt}
+use Rattle.bigendian.specs.Bytes.{numberAt}
 use Rattle.purse.specs.declared.Details.{Details}
 use Rattle.purse.specs.declared.Message.{Message}
 use Rattle.purse.specs.declared.Purse.{Purse}

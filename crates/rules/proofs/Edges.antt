@@ -3,7 +3,7 @@
 use Prim.Native.Nat.{ℕ, zero, suc}
 use mathlib.Core.Path.{_≡_, refl}
 use mathlib.Core.List.{List, [], _∷_, map}
-use Rattle.bytes.specs.Bytes.{numberAt}
+use Rattle.bigendian.specs.Bytes.{numberAt}
 use Rattle.purse.specs.declared.Message.{Message}
 use Rattle.purse.specs.Lists.{padded}
 use Rattle.purse.specs.Details.{zeroDetails, sameDetails, sameMessage, legal, named, asPayer, asPayee, entryOk, absent}

@@ -4,7 +4,7 @@ use Prim.Native.Nat.{ℕ}
 use mathlib.Core.Path.{_≡_, refl}
 use mathlib.Core.List.{List, [], _∷_, map}
 use lib.ListN.{length}
-use Rattle.bytes.specs.Bytes.{numberAt}
+use Rattle.bigendian.specs.Bytes.{numberAt}
 use Rattle.purse.specs.declared.Purse.{Purse}
 use Rattle.purse.specs.Details.{sameDetails, sameMessage, legal, named, asPayer, asPayee, entryOk, absent}
 use Rattle.purse.specs.Purse.{idleOk, busyOk, placeOk, logOk, wellFormed}

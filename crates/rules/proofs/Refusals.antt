@@ -10,7 +10,7 @@ use lib.ListN.{length, getD, set}
 use lib.Seq.{getD-set-other}
 use lib.Dec.{ltb, leb, eqb}
 use native.Mathlib.Omega.{arith}
-use Rattle.bytes.specs.Bytes.{numberAt}
+use Rattle.bigendian.specs.Bytes.{numberAt}
 use Rattle.purse.specs.declared.Name.{Name}
 use Rattle.purse.specs.declared.Seq.{Seq}
 use Rattle.purse.specs.declared.Amount.{Amount}

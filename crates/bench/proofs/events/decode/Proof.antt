@@ -2,7 +2,7 @@
 -- Assumes nothing.
 use native.Mathlib.Omega.{arith}
 use borrow.Author.Tests.{eq-eqb, ne-eqb}
-use Rattle.bytes.proofs.Numbers.{number-there}
+use Rattle.bigendian.proofs.Numbers.{number-there}
 use Rattle.rules.specs.Events.{decoded}
 use borrow.Author.Needs.{needs}
 use Rattle.bench.proofs.events.decode.Statement.{statement}

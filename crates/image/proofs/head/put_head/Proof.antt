@@ -1,8 +1,8 @@
 -- `image::head::put_head` meets its contract. The seven parts are put one after the other.
 -- Assumes nothing.
 use native.Mathlib.Omega.{arith}
-use Rattle.bytes.specs.Bytes.{big}
-use Rattle.bytes.proofs.Puts.{then-put}
+use Rattle.bigendian.specs.Bytes.{big}
+use Rattle.bigendian.proofs.Puts.{then-put}
 use Rattle.layout.specs.Head.{headBytes}
 use borrow.Author.Needs.{needs}
 use Rattle.image.proofs.head.put_head.Statement.{statement}

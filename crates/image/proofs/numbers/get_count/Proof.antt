@@ -2,7 +2,7 @@
 -- Assumes nothing.
 use native.Mathlib.Omega.{arith}
 use native.Mathlib.Nat.{add-zero}
-use Rattle.bytes.specs.Bytes.{numberAt}
+use Rattle.bigendian.specs.Bytes.{numberAt}
 use borrow.Author.Needs.{needs}
 use Rattle.image.proofs.numbers.get_count.Statement.{statement}
 use Rattle.image.proofs.numbers.get_count.Tie as tie

@@ -1,7 +1,7 @@
 -- `image::numbers::put_byte` meets its contract. One store is a run of one byte.
 -- Assumes nothing.
 use mathlib.Core.Path.{refl}
-use Rattle.bytes.specs.Bytes.{put}
+use Rattle.bigendian.specs.Bytes.{put}
 use borrow.Author.Needs.{needs}
 use Rattle.image.proofs.numbers.put_byte.Statement.{statement}
 use Rattle.image.proofs.numbers.put_byte.Tie as tie

@@ -8,7 +8,7 @@ use Rattle.desk.specs.declared.Entry.{Entry}
 use Rattle.desk.specs.Desk.{zeroEntry}
 use Rattle.layout.specs.Widths.{entryWidth}
 use Rattle.layout.specs.Records.{entryAt}
-use Rattle.bytes.proofs.Gets.{Filled, filled-none, filled-more, filled-all}
+use Rattle.bigendian.proofs.Gets.{Filled, filled-none, filled-more, filled-all}
 use borrow.Author.Needs.{needs}
 use Rattle.image.proofs.reading.get_entries.Statement.{statement}
 use Rattle.image.proofs.reading.get_entries.Tie as tie

@@ -8,7 +8,7 @@ use Rattle.purse.specs.declared.Message.{Message}
 use Rattle.purse.specs.Details.{zeroMessage}
 use Rattle.layout.specs.Widths.{messageWidth}
 use Rattle.layout.specs.Records.{messageAt}
-use Rattle.bytes.proofs.Gets.{Filled, filled-none, filled-more, filled-all}
+use Rattle.bigendian.proofs.Gets.{Filled, filled-none, filled-more, filled-all}
 use borrow.Author.Needs.{needs}
 use Rattle.image.proofs.reading.get_messages.Statement.{statement}
 use Rattle.image.proofs.reading.get_messages.Tie as tie

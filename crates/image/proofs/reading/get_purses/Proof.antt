@@ -5,7 +5,7 @@ use native.Mathlib.Omega.{arith}
 use Rattle.purse.specs.Purse.{zeroPurse}
 use Rattle.layout.specs.Widths.{purseWidth}
 use Rattle.layout.specs.Records.{purseAt}
-use Rattle.bytes.proofs.Gets.{Filled, filled-none, filled-more, filled-all}
+use Rattle.bigendian.proofs.Gets.{Filled, filled-none, filled-more, filled-all}
 use borrow.Author.Needs.{needs}
 use Rattle.image.proofs.reading.get_purses.Statement.{statement}
 use Rattle.image.proofs.reading.get_purses.Tie as tie

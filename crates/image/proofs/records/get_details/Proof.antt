@@ -2,7 +2,7 @@
 -- Assumes nothing.
 use Prim.Native.Nat.{_+_}
 use native.Mathlib.Omega.{arith}
-use Rattle.bytes.proofs.Numbers.{number-there}
+use Rattle.bigendian.proofs.Numbers.{number-there}
 use Rattle.layout.specs.Records.{detailsAt}
 use borrow.Author.Needs.{needs}
 use Rattle.image.proofs.records.get_details.Statement.{statement}

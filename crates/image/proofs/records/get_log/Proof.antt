@@ -5,7 +5,7 @@ use native.Mathlib.Omega.{arith}
 use Rattle.purse.specs.Details.{zeroDetails}
 use Rattle.layout.specs.Widths.{detailsWidth}
 use Rattle.layout.specs.Records.{detailsAt}
-use Rattle.bytes.proofs.Gets.{Filled, filled-none, filled-more, filled-full}
+use Rattle.bigendian.proofs.Gets.{Filled, filled-none, filled-more, filled-full}
 use borrow.Author.Needs.{needs}
 use Rattle.image.proofs.records.get_log.Statement.{statement}
 use Rattle.image.proofs.records.get_log.Tie as tie

@@ -2,9 +2,9 @@
 -- Assumes nothing.
 use mathlib.Core.Path.{refl}
 use native.Mathlib.Omega.{arith}
-use Rattle.bytes.specs.Bytes.{big}
+use Rattle.bigendian.specs.Bytes.{big}
 use Rattle.layout.specs.Records.{detailsBytes}
-use Rattle.bytes.proofs.Puts.{then-put}
+use Rattle.bigendian.proofs.Puts.{then-put}
 use borrow.Author.Needs.{needs}
 use Rattle.image.proofs.records.put_details.Statement.{statement}
 use Rattle.image.proofs.records.put_details.Tie as tie

@@ -8,7 +8,7 @@ use native.Mathlib.Omega.{arith}
 use Rattle.purse.specs.Details.{zeroDetails}
 use Rattle.layout.specs.Widths.{detailsWidth}
 use Rattle.layout.specs.Records.{detailsBytes}
-use Rattle.bytes.proofs.Puts.{Wrote, wrote-none, wrote-more, wrote-all}
+use Rattle.bigendian.proofs.Puts.{Wrote, wrote-none, wrote-more, wrote-all}
 use borrow.Author.Needs.{needs}
 use Rattle.image.proofs.records.put_log.Statement.{statement}
 use Rattle.image.proofs.records.put_log.Tie as tie

@@ -2,9 +2,9 @@
 -- Assumes nothing.
 use native.Mathlib.Omega.{arith}
 use lib.ListN.{length-append}
-use Rattle.bytes.specs.Bytes.{big}
+use Rattle.bigendian.specs.Bytes.{big}
 use Rattle.layout.specs.Records.{purseBytes}
-use Rattle.bytes.proofs.Puts.{then-put}
+use Rattle.bigendian.proofs.Puts.{then-put}
 use borrow.Author.Needs.{needs}
 use Rattle.image.proofs.records.put_purse.Statement.{statement}
 use Rattle.image.proofs.records.put_purse.Tie as tie

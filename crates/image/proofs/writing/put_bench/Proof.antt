@@ -4,8 +4,8 @@ use mathlib.Core.Path.{_∙_}
 use mathlib.Core.List.{append-assoc}
 use lib.ListN.{length-append}
 use native.Mathlib.Omega.{arith}
-use Rattle.bytes.specs.Bytes.{big}
-use Rattle.bytes.proofs.Puts.{then-put}
+use Rattle.bigendian.specs.Bytes.{big}
+use Rattle.bigendian.proofs.Puts.{then-put}
 use Rattle.layout.specs.Head.{headBytes}
 use Rattle.layout.proofs.Stands.{held-length, held-counts, held-image}
 use borrow.Author.Needs.{needs}

@@ -7,7 +7,7 @@ use native.Mathlib.Omega.{arith}
 use Rattle.desk.specs.Desk.{zeroEntry}
 use Rattle.layout.specs.Widths.{entryWidth}
 use Rattle.layout.specs.Records.{entryBytes}
-use Rattle.bytes.proofs.Puts.{Wrote, wrote-none, wrote-more, wrote-all}
+use Rattle.bigendian.proofs.Puts.{Wrote, wrote-none, wrote-more, wrote-all}
 use borrow.Author.Needs.{needs}
 use Rattle.image.proofs.writing.put_entries.Statement.{statement}
 use Rattle.image.proofs.writing.put_entries.Tie as tie

@@ -7,7 +7,7 @@ use native.Mathlib.Omega.{arith}
 use Rattle.purse.specs.Details.{zeroMessage}
 use Rattle.layout.specs.Widths.{messageWidth}
 use Rattle.layout.specs.Records.{messageBytes}
-use Rattle.bytes.proofs.Puts.{Wrote, wrote-none, wrote-more, wrote-all}
+use Rattle.bigendian.proofs.Puts.{Wrote, wrote-none, wrote-more, wrote-all}
 use borrow.Author.Needs.{needs}
 use Rattle.image.proofs.writing.put_messages.Statement.{statement}
 use Rattle.image.proofs.writing.put_messages.Tie as tie

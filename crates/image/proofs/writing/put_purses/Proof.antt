@@ -6,7 +6,7 @@ use lib.ListN.{length}
 use native.Mathlib.Omega.{arith}
 use Rattle.layout.specs.Widths.{purseWidth}
 use Rattle.layout.specs.Records.{purseBytes}
-use Rattle.bytes.proofs.Puts.{Wrote, wrote-none, wrote-more, wrote-all}
+use Rattle.bigendian.proofs.Puts.{Wrote, wrote-none, wrote-more, wrote-all}
 use Rattle.image.proofs.Past.{pastPurse}
 use borrow.Author.Needs.{needs}
 use Rattle.image.proofs.writing.put_purses.Statement.{statement}

@@ -4,10 +4,10 @@ use Prim.Native.Nat.{_≤_, _<_, _-_, _+_, _*_}
 use native.Mathlib.Omega.{arith}
 use mathlib.Core.Path.{_≡_, refl, _∙_}
 use lib.ListN.{length, length-set}
-use Rattle.bytes.specs.Bytes.{numberAt}
-use Rattle.bytes.proofs.Numbers.{number-there}
-use Rattle.bytes.proofs.Coded.{length-many}
-use Rattle.bytes.proofs.Gets.{Filled, filled-none, filled-more, filled-all}
+use Rattle.bigendian.specs.Bytes.{numberAt}
+use Rattle.bigendian.proofs.Numbers.{number-there}
+use Rattle.bigendian.proofs.Coded.{length-many}
+use Rattle.bigendian.proofs.Gets.{Filled, filled-none, filled-more, filled-all}
 use borrow.Author.Needs.{needs}
 use Rattle.listing.proofs.input.balances.Statement.{statement}
 use Rattle.listing.proofs.input.balances.Tie as tie

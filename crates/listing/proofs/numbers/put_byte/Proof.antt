@@ -1,7 +1,7 @@
 -- `listing::numbers::put_byte` meets its contract. One store is one byte put.
 -- Assumes nothing.
 use mathlib.Core.Path.{refl}
-use Rattle.bytes.specs.Bytes.{put}
+use Rattle.bigendian.specs.Bytes.{put}
 use borrow.Author.Needs.{needs}
 use Rattle.listing.proofs.numbers.put_byte.Statement.{statement}
 use Rattle.listing.proofs.numbers.put_byte.Tie as tie

@@ -10,7 +10,7 @@ use native.Mathlib.Omega.{arith}
 use mathlib.Core.List.{List, [], _∷_, _++_}
 use lib.ListN.{length, take, drop, getD, length-append}
 use lib.Seq.{getD-take, getD-drop, take-take, take-append-seam, drop-append-seam, drop-drop, drop-cons, take-add}
-use Rattle.bytes.specs.Bytes.{byte, byteAt, big, numberAt, room, Below, All, flat, many}
+use Rattle.bigendian.specs.Bytes.{byte, byteAt, big, numberAt, room, Below, All, flat, many}
 
 -- n bytes of a list from a place on
 unfoldable pub seg : List ℕ → ℕ → ℕ → List ℕ

@@ -5,7 +5,7 @@ use Prim.Native.Nat.{ℕ, _+_, _≤_, _<_}
 use mathlib.Core.List.{List}
 use lib.ListN.{length}
 use borrow.Author.Tests.{le-leb, lt-leb}
-use Rattle.bytes.specs.Bytes.{numberAt, numberIn}
+use Rattle.bigendian.specs.Bytes.{numberAt, numberIn}
 
 module _ (l : List ℕ) (at : ℕ) where
   pub number-there : at + 4 ≤ length l → numberIn l at ≡ numberAt 4 l at

@@ -2,7 +2,7 @@
 // read, stand in specs/ and proofs/.
 ghost use mathlib.Core.Path.{_≡_};
 ghost use Prim.Native.Nat.{_<_};
-ghost use Rattle.bytes.specs.Bytes.{numberIn};
+ghost use Rattle.bigendian.specs.Bytes.{numberIn};
 
 fn wide(x: u8) -> u32
     ensures { λ r. ⌜ (r ≡ x) × (r < 256) ⌝ }

@@ -1,14 +1,14 @@
--- `bytes::number_at` meets its contract. Where the four bytes are there its sum is that of the definition, byte by byte; each is below 256,
+-- `bigendian::number_at` meets its contract. Where the four bytes are there its sum is that of the definition, byte by byte; each is below 256,
 -- so the sum fits.
 -- Assumes nothing.
 use native.Mathlib.Omega.{arith}
 use native.Mathlib.Nat.{add-zero}
 use mathlib.Core.Path.{sym, _∙_}
-use Rattle.bytes.specs.Bytes.{numberAt}
-use Rattle.bytes.proofs.Numbers.{number-there, number-missing}
+use Rattle.bigendian.specs.Bytes.{numberAt}
+use Rattle.bigendian.proofs.Numbers.{number-there, number-missing}
 use borrow.Author.Needs.{needs}
-use Rattle.bytes.proofs.number_at.Statement.{statement}
-use Rattle.bytes.proofs.number_at.Tie as tie
+use Rattle.bigendian.proofs.number_at.Statement.{statement}
+use Rattle.bigendian.proofs.number_at.Tie as tie
 
 returns : tie.Need-returns
 returns c = sym (number-missing _ _ (omega arith))

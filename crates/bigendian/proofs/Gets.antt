@@ -8,8 +8,8 @@ use native.Mathlib.Omega.{arith}
 use mathlib.Core.List.{List, [], _∷_, _++_, append-assoc, append-nil}
 use lib.ListN.{set, replicate}
 use lib.Seq.{set-at}
-use Rattle.bytes.specs.Bytes.{many}
-use Rattle.bytes.proofs.Coded.{length-many}
+use Rattle.bigendian.specs.Bytes.{many}
+use Rattle.bigendian.proofs.Coded.{length-many}
 
 -- where a loop stands that reads values from the place at on into k places, z at each unused one: i of them are read, the places are xs,
 -- and the next value stands at from
