@@ -7,14 +7,14 @@ use mathlib.Core.Bool.{Bool, true, false, _&&_, _||_, not}
 use mathlib.Core.Logic.{⊎-elim}
 use mathlib.Core.List.{List, [], _∷_, _++_}
 use lib.ListN.{length, take, drop, getD, drop-of-length-le}
-use lib.Seq.{take-suc, take-all, drop-cons}
+use lib.Seq.{take-suc, take-all, drop-cons, length-take-le, getD-take}
 use lib.Dec.{ltb}
 use native.Mathlib.Numerals.{add-one}
 use native.Mathlib.Omega.{arith}
 use borrow.Author.Tests.{ltb-true, ltb-false}
 use Rattle.purse.specs.Lists.{all, among, distinct}
 use Rattle.table.specs.Records.{atMost}
-use Rattle.purse.proofs.Bools.{and-l, and-r, and-i, which}
+use Rattle.purse.proofs.Bools.{and-l, and-r, and-i, or-inr, which, with-false}
 
 pub and-assoc : (a b c : Bool) → ((a && b) && c) ≡ (a && (b && c))
 and-assoc true b c = refl
@@ -77,15 +77,34 @@ module _ {A : Type 0} where
   pub distinct-next : (same : A → A → Bool) → ((x y : A) → same x y ≡ same y x) → (l : List A) (i : ℕ) (z : A) → i < length l → distinct same (take (i + 1) l) ≡ (distinct same (take i l) && not (among same (getD l i z) (take i l)))
   distinct-next same turn l i z h = rw (add-one i, take-suc l i z h) (distinct-last same turn (take i l) (getD l i z))
 
-  -- one turn of a loop that asks each member, looks for one, or holds each against those before it
+  -- one turn of a loop that asks each member, or looks for one
   pub more-all : (f : A → Bool) (l : List A) (i : ℕ) (z : A) {ok r : Bool} → i < length l → ok ≡ all f (take i l) → r ≡ f (getD l i z) → (ok && r) ≡ all f (take (i + 1) l)
   more-all f l i z h e k = rw (e, k) (sym (all-next f l i z h))
 
   pub more-any : (same : A → A → Bool) (x : A) (l : List A) (i : ℕ) (z : A) {hit r : Bool} → i < length l → hit ≡ among same x (take i l) → r ≡ same x (getD l i z) → (hit || r) ≡ among same x (take (i + 1) l)
   more-any same x l i z h e k = rw (e, k) (sym (among-next same x l i z h))
 
-  pub more-apart : (same : A → A → Bool) → ((x y : A) → same x y ≡ same y x) → (l : List A) (i : ℕ) (z : A) {ok hit : Bool} → i < length l → ok ≡ distinct same (take i l) → hit ≡ among same (getD l i z) (take i l) → (ok && not hit) ≡ distinct same (take (i + 1) l)
-  more-apart same turn l i z h e k = rw (e, k) (sym (distinct-next same turn l i z h))
+  -- a loop that holds each against those before it, and leaves at the first that is the same: none so far, each so far apart, and why
+  -- two places that are the same settle it
+  pub none-more : (same : A → A → Bool) (x : A) (l : List A) (j : ℕ) (z : A) {r : Bool} → j < length l → among same x (take j l) ≡ false → r ≡ same x (getD l j z) → r ≡ false → among same x (take (j + 1) l) ≡ false
+  none-more same x l j z h e k f = sym (more-any same x l j z h (sym e) k) ∙ f
+
+  pub apart-more : (same : A → A → Bool) → ((x y : A) → same x y ≡ same y x) → (l : List A) (i j : ℕ) (z : A) → i < length l → distinct same (take i l) ≡ true → among same (getD l i z) (take j l) ≡ false → j ≡ i → distinct same (take (i + 1) l) ≡ true
+  apart-more same turn l i j z h e k g =
+      let a : among same (getD l i z) (take i l) ≡ false = rw g at k in
+      distinct-next same turn l i z h ∙ rw (e, a)
+
+  among-at : (same : A → A → Bool) (x : A) (l : List A) (z : A) (j : ℕ) → j < length l → same x (getD l j z) ≡ true → among same x l ≡ true
+  among-at same x [] z j h e = absurd (omega arith)
+  among-at same x (y ∷ l) z zero h e = rw e
+  among-at same x (y ∷ l) z (suc j) h e = or-inr (same x y) (among same x l) (among-at same x l z j (omega arith) e)
+
+  pair-same : (same : A → A → Bool) (l : List A) (z : A) (i j : ℕ) → i < length l → j < i → same (getD l j z) (getD l i z) ≡ true → distinct same l ≡ false
+  pair-same same [] z i j h g e = absurd (omega arith)
+  pair-same same (x ∷ l) z zero j h g e = absurd (omega arith)
+  pair-same same (x ∷ l) z (suc i) zero h g e = rw (among-at same x l z i (omega arith) e)
+  pair-same same (x ∷ l) z (suc i) (suc j) h g e =
+      ap (λ (b : Bool). not (among same x l) && b) (pair-same same l z i j (omega arith) (omega arith) e) ∙ sym (with-false (not (among same x l)))
 
   -- a loop's last turn: as many places as the count says
   pub stops : {X : Type 0} (g : List A → X) (l : List A) (i j : ℕ) {r : X} → i ≡ j → r ≡ g (take i l) → r ≡ g (take j l)
@@ -102,6 +121,13 @@ module _ {A : Type 0} where
 
   pub walked-all : {X : Type 0} (g : List A → X) (l : List A) (n many i : ℕ) {count : ℕ} {r : X} → length l ≡ many → count ≡ atMost n many → i ≡ count → r ≡ g (take i l) → r ≡ g (take n l)
   walked-all g l n many i h c e k = stops g l i (atMost n many) (e ∙ c) k ∙ ap g (take-most n many l h)
+
+  pub pair-found : (same : A → A → Bool) → ((x y : A) → same x y ≡ same y x) → (l : List A) (n many i j : ℕ) (z : A) {count : ℕ} {r : Bool} → length l ≡ many → count ≡ atMost n many → count ≤ many → i < count → j < i → r ≡ same (getD l i z) (getD l j z) → r ≡ true → false ≡ distinct same (take n l)
+  pair-found same turn l n many i j z {count} h c m g q k t =
+      let long : length (take count l) ≡ count = length-take-le count l (omega arith) in
+      let e : same (getD (take count l) j z) (getD (take count l) i z) ≡ true =
+      rw (getD-take count l i z g, getD-take count l j z (omega arith)) (turn (getD l j z) (getD l i z) ∙ sym k ∙ t) in
+      walked-all (distinct same) l n many count h c refl (sym (pair-same same (take count l) z i j (omega arith) q e))
 
   -- one place less in the rest of the list: ok is what the places before i say
   pub rest-more : (f : A → Bool) (l : List A) (i : ℕ) (z : A) (ok : Bool) {r whole : Bool} → i < length l → (ok && all f (drop i l)) ≡ whole → r ≡ f (getD l i z) → ((ok && r) && all f (drop (i + 1) l)) ≡ whole
