@@ -16,6 +16,7 @@ use Rattle.purse.specs.declared.Details.{Details}
 use Rattle.purse.specs.Lists.{all, every, among, distinct, keep, total}
 use Rattle.purse.specs.Details.{sameDetails, sameMessage}
 use Rattle.purse.proofs.Bools.{and-l, and-r, which}
+use Rattle.purse.proofs.Lists.{all-at, all-each}
 use Rattle.purse.proofs.Payments.{is-named, entry-named}
 use Rattle.purse.proofs.Count.{sum-same, sum-shares}
 use Rattle.desk.specs.declared.Entry.{Entry}
@@ -28,7 +29,6 @@ use Rattle.rules.specs.Paid.{amountOf, claimedWith, claims}
 use Rattle.rules.specs.Laid.{seen, placesOk, isZeroPurse, isZeroMessage, isZeroEntry, heldOk}
 use Rattle.rules.proofs.Facts.{is-in}
 use Rattle.rules.proofs.Places.{seen-ok}
-use Rattle.table.proofs.Walks.{all-at, all-each}
 use Rattle.bench.specs.Claims.{archived, hit, claimOf, bounded}
 
 module _ (a : Archive) (long : length (a .places) ≡ 256) (few : a .count ≤ 256) (i : ℕ) where

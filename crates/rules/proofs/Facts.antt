@@ -57,6 +57,10 @@ entry-equal e f h =
     let d : e .details ≡ f .details = details-equal _ _ (and-r (eqb (e .by .0) (f .by .0)) (sameDetails (e .details) (f .details)) h) in
     λ i. record { by = record { 0 = n i }; details = d i }
 
+pub entry-same : (e : Entry) → sameEntry e e ≡ true
+unfolding sameEntry
+entry-same e = and-i (eq-eqb (e .by .0) _ refl) (details-same (e .details))
+
 -- how often details, or a message, stand in a list
 abbrev pub countD : Details → List Details → ℕ
 countD = times sameDetails

@@ -10,7 +10,6 @@ use mathlib.Core.List.{List, _++_}
 use lib.ListN.{length, take, drop, getD, length-drop}
 use lib.Seq.{length-take-le, getD-take, getD-drop}
 use lib.Dec.{ltb, leb, eqb}
-use native.Mathlib.Numerals.{add-one}
 use native.Mathlib.Omega.{arith}
 use borrow.Author.Tests.{leb-true, le-leb, ltb-true, ltb-false, lt-ltb, le-ltb, eqb-true, eq-eqb}
 use Rattle.purse.specs.declared.Details.{Details}
@@ -19,8 +18,8 @@ use Rattle.purse.specs.declared.Purse.{Purse}
 use Rattle.purse.specs.Lists.{every, all, distinct}
 use Rattle.purse.specs.Details.{zeroMessage, sameDetails, sameMessage}
 use Rattle.purse.specs.Purse.{zeroPurse, wellFormed}
-use Rattle.purse.proofs.Bools.{and-l, and-r, and-i, which}
-use Rattle.purse.proofs.Lists.{every-at, every-all}
+use Rattle.purse.proofs.Bools.{and-l, and-r, and-i, which, together}
+use Rattle.purse.proofs.Lists.{every-at, every-all, all-at, all-places, all-each, all-both}
 use Rattle.desk.specs.declared.Entry.{Entry}
 use Rattle.desk.specs.declared.Desk.{Desk}
 use Rattle.desk.specs.declared.Held.{Held}
@@ -29,8 +28,6 @@ use Rattle.rules.specs.Bench.{Bench, called, purseAt, running, kept, archivedBy
 use Rattle.rules.specs.Table.{countsOk, inTable, purseOk, messageOk, archiveOk, onceOk, clearOk, tableOk}
 use Rattle.rules.specs.Laid.{seen, isZeroPurse, isZeroMessage, isZeroEntry, placesOk, heldOk}
 use Rattle.table.specs.Records.{standing, collected, when, within, messageAlone, etherAlone, entryAlone, archiveAlone, deskOk, messageBeside, holds, entryBeside, namesOk, purseBeside, recordOk, byRecords}
-use Rattle.table.proofs.Walks.{and-assoc, all-at, all-is, all-each, all-both}
-use Rattle.table.proofs.Same.{together}
 use Rattle.table.proofs.Beside.{within-table, message-alone, message-beside, message-whole, entry-alone, entry-beside, entry-whole, entry-once}
 use Rattle.table.proofs.Once.{record-apart, archived-apart, apart-archived, once-parts}
 
@@ -150,15 +147,15 @@ module _ (b : Bench) (d : Desk) (many : length (b .purses) ≡ d .purses) (ms : 
       record {
         counts = c;
         purse = λ (i : ℕ) (g : i < d .purses). beside-purse s i g;
-        messages = all-is (messageOk b) (b .messages) zeroMessage (λ (j : ℕ) (g : j < length (b .messages)). whole j g .0);
+        messages = all-places (messageOk b) (b .messages) zeroMessage (λ (j : ℕ) (g : j < length (b .messages)). whole j g .0);
         entries =
-            all-is (archiveOk b) (b .archive) zeroEntry (λ (j : ℕ) (g : j < length (b .archive)).
+            all-places (archiveOk b) (b .archive) zeroEntry (λ (j : ℕ) (g : j < length (b .archive)).
             entry-whole b (d .purses) many (getD (b .archive) j zeroEntry)
             (all-at (entryAlone (d .purses)) (b .archive) zeroEntry j e g)
             (λ (i : ℕ) (k : i < d .purses). all-at (entryBeside i (purseAt b i)) (b .archive) zeroEntry j (beside-entries s i k) g));
         once = λ (i : ℕ) (g : i < d .purses). beside-once s i g y;
         apart = x;
-        clear = all-is (clearOk b) (b .messages) zeroMessage (λ (j : ℕ) (g : j < length (b .messages)). whole j g .1);
+        clear = all-places (clearOk b) (b .messages) zeroMessage (λ (j : ℕ) (g : j < length (b .messages)). whole j g .1);
       }
 
   -- the lists alone
@@ -197,7 +194,7 @@ module _ {A : Type 0} (f : A → Bool) (many n : ℕ) (l : List A) (h : placesOk
 zero-places : {A : Type 0} (f : A → Bool) (many n : ℕ) (l : List A) (z : A) → length l ≡ many → n ≤ many → ((i : ℕ) → n ≤ i → i < many → f (getD l i z) ≡ true) → placesOk f many n l ≡ true
 zero-places f many n l z e k h =
     and-i (and-i (eq-eqb _ _ e) (le-leb _ _ k))
-    (all-is f (drop n l) z (λ (j : ℕ) (g : j < length (drop n l)).
+    (all-places f (drop n l) z (λ (j : ℕ) (g : j < length (drop n l)).
     let m : j < length l - n = rw (length-drop n l) at g in
     rw (getD-drop n l j z) (h (n + j) (omega arith) (omega arith))))
 
@@ -305,10 +302,7 @@ module _ (h : Held) where
   pub held-by-records : heldOk h ≡ byRecords h
   held-by-records = together (heldOk h) (byRecords h) to from
 
--- a loop over the records: one more of them, and all
-pub more-every : (f : ℕ → Bool) (i : ℕ) (ok₀ : Bool) {ok r : Bool} → ok ≡ (ok₀ && every i f) → r ≡ f i → (ok && r) ≡ (ok₀ && every (i + 1) f)
-more-every f i ok₀ e k = rw (e, k, add-one i) (and-assoc ok₀ (every i f) (f i))
-
+-- a loop over the records, and all of them asked
 pub held-walked : (h : Held) (i : ℕ) (ok₀ : Bool) {ok : Bool} → length (h .table) ≡ 32 → i ≡ 32 → ok₀ ≡ deskOk (h .desk) → ok ≡ (ok₀ && every i (λ (j : ℕ). recordOk (h .desk) j (getD (h .table) j zeroPurse))) → ok ≡ heldOk h
 unfolding byRecords
 held-walked h i ok₀ {ok} long full d k =

@@ -47,11 +47,12 @@ use denote.Exit.{yes}
 use Rattle.purse.specs.declared.Purse.{Purse}
 use Rattle.purse.specs.Purse.{zeroPurse}
 use Rattle.purse.specs.Lists.{every}
+use Rattle.purse.proofs.Walks.{more-every}
 use Rattle.desk.specs.declared.Desk.{Desk}
 use Rattle.records.specs.Lent.{held}
 use Rattle.rules.specs.Laid.{heldOk}
 use Rattle.table.specs.Records.{deskOk, recordOk, byRecords}
-use Rattle.table.proofs.Held.{held-by-records, more-every}
+use Rattle.table.proofs.Held.{held-by-records}
 use Rattle.lent.proofs.Lent.{after, while-test, if-test, gone, place-of, place-is, if-false, not-not}
 use Rattle.records.proofs.Structs.{pval, psize, dval}
 use Rattle.records.proofs.Calls.{DeskOkC, RecordOkC, calls-desk-ok, calls-record-ok}

@@ -7,8 +7,8 @@ use mathlib.Core.Bool.{true, false}
 use lib.ListN.{length, length-map, take, getD}
 use native.Mathlib.Omega.{arith}
 use Rattle.purse.specs.Lists.{among, distinct}
+use Rattle.purse.proofs.Walks.{none-more, apart-more, pair-found, walked-all}
 use Rattle.desk.specs.Desk.{zeroEntry, sameEntry}
-use Rattle.table.proofs.Walks.{bounded, none-more, apart-more, pair-found, walked-all}
 use Rattle.table.proofs.Same.{turn-entry}
 use borrow.Author.Needs.{needs}
 use Rattle.table.proofs.entries.no_two_equal.Statement.{statement}
@@ -26,6 +26,9 @@ Inv-loop a count i₀ i = (count ≤ 256) × (i ≤ count) × (distinct sameEntr
 abbrev μ-loop : tie.MeasureT-loop
 μ-loop a count i₀ i = count - i
 
+long : (start : tie.Start Inv-loop2 μ-loop2 Inv-loop μ-loop) → length (start .args .t1 .places) ≡ 256
+long start = simp length-map at (start .good .0 .1 .1 .0 .1 .0 .1)
+
 cast-at-most : tie.Need-cast-at-most Inv-loop2 μ-loop2 Inv-loop μ-loop
 cast-at-most c = search needs
 
@@ -33,7 +36,7 @@ at-most-requires : tie.Need-at-most-requires Inv-loop2 μ-loop2 Inv-loop μ-loop
 at-most-requires c κs = search needs
 
 loop-holds : tie.Need-loop-holds Inv-loop2 μ-loop2 Inv-loop μ-loop
-loop-holds c = (bounded (c .before .args .t1 .count) 256 (c .at-most .ensures), omega arith, refl)
+loop-holds c = (omega arith, omega arith, refl)
 
 mul-e : tie.Need-mul-e Inv-loop2 μ-loop2 Inv-loop μ-loop
 mul-e c = search needs
@@ -59,9 +62,8 @@ returns c =
     let at-loop = at-loop2 .before .before .before in
     let start = at-loop .before .before in
     let a = start .args .t1 in
-    let long : length (a .places) ≡ 256 = simp length-map at (start .good .0 .1 .1 .0 .1 .0 .1) in
-    pair-found sameEntry turn-entry (a .places) (a .count) 256 (at-loop .loop .i) (at-loop2 .loop2 .j) zeroEntry long (at-loop .before .at-most .ensures)
-    (at-loop .loop .inv .0) (omega arith) (omega arith) (c .before .same .ensures) (c .if1 .taken)
+    pair-found sameEntry turn-entry (a .places) (a .count) 256 (at-loop .loop .i) (at-loop2 .loop2 .j) zeroEntry (long start) (at-loop .before .at-most .ensures)
+    (omega arith) (omega arith) (c .before .same .ensures) (c .if1 .taken)
 
 add-j : tie.Need-add-j Inv-loop2 μ-loop2 Inv-loop μ-loop
 add-j c = search needs
@@ -75,10 +77,9 @@ loop2-again c =
     let at-loop = at-loop2 .before .before .before in
     let start = at-loop .before .before in
     let a = start .args .t1 in
-    let long : length (a .places) ≡ 256 = simp length-map at (start .good .0 .1 .1 .0 .1 .0 .1) in
     let i = at-loop .loop .i in (
       omega arith,
-      none-more sameEntry (getD (a .places) i zeroEntry) (a .places) (at-loop2 .loop2 .j) zeroEntry (omega arith) (at-loop2 .loop2 .inv .1)
+      none-more sameEntry (getD (a .places) i zeroEntry) (a .places) (at-loop2 .loop2 .j) zeroEntry (omega (arith, long start)) (at-loop2 .loop2 .inv .1)
           (c .before .same .ensures) (c .if1 .left),
     )
 
@@ -94,11 +95,10 @@ loop-again c =
     let at-loop = at-loop2 .before .before .before in
     let start = at-loop .before .before in
     let a = start .args .t1 in
-    let long : length (a .places) ≡ 256 = simp length-map at (start .good .0 .1 .1 .0 .1 .0 .1) in
     let i = at-loop .loop .i in (
       at-loop .loop .inv .0,
       omega arith,
-      apart-more sameEntry turn-entry (a .places) i (at-loop2 .loop2 .j) zeroEntry (omega arith) (at-loop .loop .inv .2) (at-loop2 .loop2 .inv .1) (omega arith),
+      apart-more sameEntry turn-entry (a .places) i (at-loop2 .loop2 .j) zeroEntry (omega (arith, long start)) (at-loop .loop .inv .2) (at-loop2 .loop2 .inv .1) (omega arith),
     )
 
 returns-2 : tie.Need-returns-2 Inv-loop2 μ-loop2 Inv-loop μ-loop
@@ -106,8 +106,7 @@ returns-2 c =
     let at-loop = c .before in
     let start = at-loop .before .before in
     let a = start .args .t1 in
-    let long : length (a .places) ≡ 256 = simp length-map at (start .good .0 .1 .1 .0 .1 .0 .1) in
-    walked-all (distinct sameEntry) (a .places) (a .count) 256 (at-loop .loop .i) long (at-loop .before .at-most .ensures) (omega arith) (sym (at-loop .loop .inv .2))
+    walked-all (distinct sameEntry) (a .places) (a .count) 256 (at-loop .loop .i) (long start) (at-loop .before .at-most .ensures) (omega arith) (sym (at-loop .loop .inv .2))
 
 pub no-two-equal-spec : {M : Type 1} → statement M
 no-two-equal-spec =
