@@ -33,13 +33,6 @@ every-all f (suc n) h = and-i (every-all f n (λ i g. h i (omega arith))) (h n (
 pub unmapped : (X Y : Type 0) (f : X → Y) (l : List X) (n : ℕ) → length (map f l) ≡ n → length l ≡ n
 unmapped X Y f l n e = sym (length-map l f) ∙ e
 
--- the earlier ones apart, and the last apart from each: regrouped
-last-apart : (a b c d : Bool) → (not (a || c) && (d && not b)) ≡ ((not a && d) && not (c || b))
-last-apart true b c d = refl
-last-apart false b true true = refl
-last-apart false b true false = refl
-last-apart false b false d = refl
-
 module _ {A : Type 0} where
   -- at a place of the list it is no matter what stands past its end
   pub at-any : (l : List A) (i : ℕ) (y z : A) → i < length l → getD l i y ≡ getD l i z
@@ -105,15 +98,6 @@ module _ {A : Type 0} where
       rw (add-one i, take-suc l i z h)
       (among-append same x (take i l) (getD l i z ∷ []) ∙ ap (λ (b : Bool). among same x (take i l) || b) (or-false (same x (getD l i z))))
 
-  distinct-last : (same : A → A → Bool) → ((x y : A) → same x y ≡ same y x) → (s : List A) (y : A) → distinct same (s ++ (y ∷ [])) ≡ (distinct same s && not (among same y s))
-  distinct-last same turn [] y = refl
-  distinct-last same turn (x ∷ s) y =
-      rw (among-append same x s (y ∷ []), distinct-last same turn s y, or-false (same x y), turn y x)
-      (last-apart (among same x s) (among same y s) (same x y) (distinct same s))
-
-  pub distinct-next : (same : A → A → Bool) → ((x y : A) → same x y ≡ same y x) → (l : List A) (i : ℕ) (z : A) → i < length l → distinct same (take (i + 1) l) ≡ (distinct same (take i l) && not (among same (getD l i z) (take i l)))
-  distinct-next same turn l i z h = rw (add-one i, take-suc l i z h) (distinct-last same turn (take i l) (getD l i z))
-
   -- some member, by its place
   among-at : (same : A → A → Bool) (x : A) (l : List A) (z : A) (j : ℕ) → j < length l → same x (getD l j z) ≡ true → among same x l ≡ true
   among-at same x [] z j h e = absurd (omega arith)
@@ -134,15 +118,6 @@ module _ {A : Type 0} where
   pair-same same (x ∷ l) z (suc i) zero h g e = rw (among-at same x l z i (omega arith) e)
   pair-same same (x ∷ l) z (suc i) (suc j) h g e =
       ap (λ (b : Bool). not (among same x l) && b) (pair-same same l z i j (omega arith) (omega arith) e) ∙ and-false (not (among same x l))
-
-  -- apart, each from those before it
-  pub distinct-all : (same : A → A → Bool) → ((x y : A) → same x y ≡ same y x) → (l : List A) (z : A) (n : ℕ) → n ≤ length l → ((i j : ℕ) → i < n → j < i → same (getD l j z) (getD l i z) ≡ false) → distinct same (take n l) ≡ true
-  distinct-all same turn l z zero h k = refl
-  distinct-all same turn l z (suc n) h k =
-      let e : distinct same (take n l) ≡ true = distinct-all same turn l z n (omega arith) (λ (i j : ℕ) (g : i < n) (q : j < i). k i j (omega arith) q) in
-      let a : among same (getD l n z) (take n l) ≡ false =
-      among-none same (getD l n z) l z n (omega arith) (λ (j : ℕ) (g : j < n). turn (getD l n z) (getD l j z) ∙ k n j (omega arith) g) in
-      rw (← add-one n) (distinct-next same turn l n z (omega arith) ∙ rw (e, a))
 
 -- the three parts of "apart" regrouped
 apart-turn : (b c u w : Bool) → (not (c || b) && (not u && w)) ≡ (not (c || u) && (not b && w))
@@ -165,13 +140,29 @@ module _ {A : Type 0} (same : A → A → Bool) (turn : (x y : A) → same x y �
       rw (apart-from x s t, turn y x)
       (apart-turn (among same y s) (same x y) (among same x t) (all (λ (y : A). not (among same y s)) t))
 
-  all-apart : (t : List A) → all (λ (y : A). true) t ≡ true
-  all-apart [] = refl
-  all-apart (y ∷ t) = all-apart t
+  none-before : (t : List A) → all (λ (y : A). true) t ≡ true
+  none-before [] = refl
+  none-before (y ∷ t) = none-before t
 
   -- two lists one after the other: each apart, and no member of the second among the first
   pub distinct-append : (s t : List A) → distinct same (s ++ t) ≡ (distinct same s && distinct same t && all (λ (y : A). not (among same y s)) t)
-  distinct-append [] t = sym (rw (all-apart t) (and-true (distinct same t)))
+  distinct-append [] t = sym (rw (none-before t) (and-true (distinct same t)))
   distinct-append (x ∷ s) t =
       rw (among-append same x s t, distinct-append s t, apart-from x s t)
       (apart-parts (among same x s) (among same x t) (distinct same s) (distinct same t) (all (λ (y : A). not (among same y s)) t))
+
+  -- one place more
+  pub distinct-next : (l : List A) (i : ℕ) (z : A) → i < length l → distinct same (take (i + 1) l) ≡ (distinct same (take i l) && not (among same (getD l i z) (take i l)))
+  distinct-next l i z h =
+      rw (add-one i, take-suc l i z h)
+      (distinct-append (take i l) (getD l i z ∷ [])
+      ∙ rw (and-true (distinct same (take i l)), and-true (not (among same (getD l i z) (take i l)))))
+
+  -- each apart from those before it
+  pub distinct-all : (l : List A) (z : A) (n : ℕ) → n ≤ length l → ((i j : ℕ) → i < n → j < i → same (getD l j z) (getD l i z) ≡ false) → distinct same (take n l) ≡ true
+  distinct-all l z zero h k = refl
+  distinct-all l z (suc n) h k =
+      let e : distinct same (take n l) ≡ true = distinct-all l z n (omega arith) (λ (i j : ℕ) (g : i < n) (q : j < i). k i j (omega arith) q) in
+      let a : among same (getD l n z) (take n l) ≡ false =
+      among-none same (getD l n z) l z n (omega arith) (λ (j : ℕ) (g : j < n). turn (getD l n z) (getD l j z) ∙ k n j (omega arith) g) in
+      rw (← add-one n) (distinct-next l n z (omega arith) ∙ rw (e, a))

@@ -25,11 +25,8 @@ module _ {A : Type 0} where
   more-any same x l i z h e k = rw (e, k) (sym (among-next same x l i z h))
 
   -- the last turn: as many places as the count says, or all of them
-  pub stops : {X : Type 0} (g : List A → X) (l : List A) (i j : ℕ) {r : X} → i ≡ j → r ≡ g (take i l) → r ≡ g (take j l)
-  stops g l i j e k = rw e at k
-
   pub walked-all : {X : Type 0} (g : List A → X) (l : List A) (n many i : ℕ) {count : ℕ} {r : X} → length l ≡ many → count ≡ min n many → i ≡ count → r ≡ g (take i l) → r ≡ g (take n l)
-  walked-all g l n many i h c e k = stops g l i (min n many) (e ∙ c) k ∙ ap g (take-least n many l (omega arith))
+  walked-all g l n many i h c e k = k ∙ ap (λ (m : ℕ). g (take m l)) (e ∙ c) ∙ ap g (take-least n many l (omega arith))
 
   -- a loop that holds each against those before it, and leaves at the first that is the same: none so far, each so far apart, and why
   -- two places that are the same settle it
