@@ -1,8 +1,8 @@
 -- An opened bench, purse by purse: the table after one balance more, and the whole.
 -- Assumes nothing.
 use Prim.Native.Nat.{ℕ, _+_, _<_, _≤_}
-use mathlib.Core.Path.{_≡_, refl, _∙_, sym, ap}
-use mathlib.Core.List.{List, [], _∷_, _++_, map}
+use mathlib.Core.Path.{_≡_, _∙_, sym, ap}
+use mathlib.Core.List.{List, [], _∷_, _++_, map, map-append}
 use lib.ListN.{length, getD, set, take, length-map}
 use lib.Seq.{length-take-le, take-suc, take-all}
 use native.Mathlib.Numerals.{add-one}
@@ -16,10 +16,6 @@ use Rattle.desk.specs.Desk.{openedDesk}
 use Rattle.rules.specs.Run.{openedAt, opened}
 use Rattle.rules.specs.Laid.{laid}
 
-map-last : {A B : Type 0} (f : A → B) (l : List A) (x : A) → map f (l ++ (x ∷ [])) ≡ map f l ++ (f x ∷ [])
-map-last f [] x = refl
-map-last {A} {B} f (y ∷ l) x = ap (λ (t : List B). f y ∷ t) (map-last f l x)
-
 pub table-more : (bs : List ℕ) (i : ℕ) → i < length bs → length bs ≤ 32 → set (padded 32 zeroPurse (map openedAt (take i bs))) i (openedAt (getD bs i 0)) ≡ padded 32 zeroPurse (map openedAt (take (i + 1) bs))
 table-more bs i h few =
     let p : Purse = openedAt (getD bs i 0) in
@@ -28,7 +24,7 @@ table-more bs i h few =
     let t : take (i + 1) bs ≡ take i bs ++ (getD bs i 0 ∷ []) = rw (add-one i) (take-suc bs i 0 h) in
     ap (λ (k : ℕ). set (padded 32 zeroPurse l) k p) (sym n)
     ∙ (push-padded 32 zeroPurse l p (omega arith)
-    ∙ ap (padded 32 zeroPurse) (sym (ap (map openedAt) t ∙ map-last openedAt (take i bs) (getD bs i 0))))
+    ∙ ap (padded 32 zeroPurse) (sym (ap (map openedAt) t ∙ map-append openedAt (take i bs) (getD bs i 0 ∷ []))))
 
 pub opened-laid : (bs : List ℕ) (i : ℕ) (t : List Purse) (d : Desk) → length bs ≤ i → t ≡ padded 32 zeroPurse (map openedAt (take i bs)) → d ≡ openedDesk (length bs) → record { table = t; desk = d } ≡ laid (opened bs)
 opened-laid bs i t d h e f =

@@ -8,14 +8,15 @@ use mathlib.Core.Logic.{⊎-elim}
 use mathlib.Core.List.{List, [], _∷_}
 use lib.ListN.{length, getD, drop, drop-of-length-le}
 use lib.Seq.{drop-cons, length-take-le, getD-take}
-use lib.Dec.{ltb, leb, eqb}
+use lib.Dec.{ltb, eqb}
 use native.Mathlib.Numerals.{add-one}
 use native.Mathlib.Omega.{arith}
 use borrow.Author.Tests.{eqb-true, lt-ltb, le-leb, leb-true}
 use Rattle.purse.specs.declared.Details.{Details}
-use Rattle.purse.specs.Lists.{all, every, among, distinct, keep, total}
-use Rattle.purse.specs.Details.{sameDetails, sameMessage}
+use Rattle.purse.specs.Lists.{all, among, keep, total}
+use Rattle.purse.specs.Details.{sameDetails}
 use Rattle.purse.proofs.Bools.{and-l, and-r, which}
+use Rattle.purse.proofs.Lists.{all-at, all-each}
 use Rattle.purse.proofs.Payments.{is-named, entry-named}
 use Rattle.purse.proofs.Count.{sum-same, sum-shares}
 use Rattle.desk.specs.declared.Entry.{Entry}
@@ -23,12 +24,11 @@ use Rattle.desk.specs.declared.Archive.{Archive}
 use Rattle.desk.specs.declared.Held.{Held}
 use Rattle.desk.specs.Desk.{zeroEntry}
 use Rattle.rules.specs.Bench.{Bench, archivedBy}
-use Rattle.rules.specs.Table.{tableOk, countsOk, purseOk, messageOk, archiveOk, onceOk, clearOk, inTable}
+use Rattle.rules.specs.Table.{archiveOk, inTable}
 use Rattle.rules.specs.Paid.{amountOf, claimedWith, claims}
-use Rattle.rules.specs.Laid.{seen, placesOk, isZeroPurse, isZeroMessage, isZeroEntry, heldOk}
-use Rattle.rules.proofs.Facts.{is-in}
-use Rattle.rules.proofs.Places.{seen-ok}
-use Rattle.table.proofs.Walks.{all-at, all-each}
+use Rattle.rules.specs.Laid.{seen, isZeroEntry, heldOk}
+use Rattle.rules.proofs.Facts.{is-in, is-lists}
+use Rattle.rules.proofs.Places.{places-fit, obeys, seen-ok}
 use Rattle.bench.specs.Claims.{archived, hit, claimOf, bounded}
 
 module _ (a : Archive) (long : length (a .places) ≡ 256) (few : a .count ≤ 256) (i : ℕ) where
@@ -116,41 +116,15 @@ by-payer b p (e ∷ es) =
     (which (eqb (e .by .0) p)))
     (which (eqb (payerOf e) p))
 
--- the rule of the archive, of the table's rules
-entries-ok : (b : Bench) → tableOk b ≡ true → all (archiveOk b) (b .archive) ≡ true
-unfolding tableOk
-entries-ok b w =
-    let counts : Bool = countsOk b in
-    let purses : Bool = every (length (b .purses)) (purseOk b) in
-    let messages : Bool = all (messageOk b) (b .messages) in
-    let entries : Bool = all (archiveOk b) (b .archive) in
-    let once : Bool = every (length (b .purses)) (onceOk b) in
-    let apart : Bool = distinct sameMessage (b .messages) in
-    let clear : Bool = all (clearOk b) (b .messages) in
-    and-r (counts && purses && messages) entries
-    (and-l (counts && purses && messages && entries) once
-    (and-l (counts && purses && messages && entries && once) apart
-    (and-l (counts && purses && messages && entries && once && apart) clear w)))
-
 module _ (h : Held) (w : heldOk h ≡ true) where
   abbrev here : Bench
   here = seen h
 
   entries : all (archiveOk here) (here .archive) ≡ true
-  entries = entries-ok here (seen-ok h w)
+  entries = is-lists here (seen-ok h w) .entries
 
   pub held-few : h .desk .archive .count ≤ 256
-  unfolding heldOk
-  held-few =
-      let ps : Bool = placesOk isZeroPurse 32 (h .desk .purses) (h .table) in
-      let ms : Bool = placesOk isZeroMessage 256 (h .desk .ether .count) (h .desk .ether .places) in
-      let es : Bool = placesOk isZeroEntry 256 (h .desk .archive .count) (h .desk .archive .places) in
-      let many : Bool = eqb (length (h .desk .archive .places)) 256 in
-      let fits : Bool = leb (h .desk .archive .count) 256 in
-      leb-true (h .desk .archive .count) 256
-      (and-r many fits
-      (and-l (many && fits) (all isZeroEntry (drop (h .desk .archive .count) (h .desk .archive .places)))
-      (and-r (ps && ms) es (and-l (ps && ms && es) (tableOk (seen h)) w))))
+  held-few = places-fit isZeroEntry 256 (h .desk .archive .count) (h .desk .archive .places) (obeys h w .entries)
 
   pub held-bounded : all bounded (archived (h .desk .archive)) ≡ true
   unfolding archiveOk

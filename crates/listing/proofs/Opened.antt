@@ -1,16 +1,12 @@
--- The balances of an opening: when they are all there, and when not; and a table's first records.
+-- The balances of an opening: when they are all there, and when not.
 -- Assumes nothing.
-use mathlib.Core.Path.{_≡_, refl, sym, _∙_}
-use Prim.Native.Nat.{ℕ, _+_, _*_, _<_, _≤_, min}
-use mathlib.Core.Bool.{true, false}
+use mathlib.Core.Path.{_≡_, refl}
+use Prim.Native.Nat.{ℕ, _+_, _*_, _<_, _≤_}
+use mathlib.Core.Bool.{false}
 use native.Mathlib.Omega.{arith}
 use mathlib.Core.List.{List, [], _∷_}
-use mathlib.Core.Logic.{⊎-elim}
-use lib.Dec.{leb}
-use lib.ListN.{length, take, getD, replicate}
-use borrow.Author.Tests.{lt-leb, le-leb, leb-true, leb-false}
-use lib.Seq.{take-all}
-use Rattle.purse.proofs.Bools.{which}
+use lib.ListN.{length, getD, replicate}
+use borrow.Author.Tests.{lt-leb, le-leb}
 use Rattle.purse.specs.Lists.{padded}
 use Rattle.bigendian.specs.Bytes.{numberAt}
 use Rattle.bigendian.proofs.Coded.{length-many}
@@ -43,14 +39,3 @@ module _ (l : List ℕ) where
 -- no byte at all
 pub nothing-there : (l : List ℕ) → length l < 1 → record { count = 0; balances = replicate 32 0 } ≡ openingIn l
 nothing-there l h = let e : l ≡ [] = empty l h in rw e (too-few [] (omega arith) (omega arith))
-
--- as many as there are, at most
-pub take-least : {A : Type 0} (n m : ℕ) (l : List A) → length l ≤ m → take (min n m) l ≡ take n l
-take-least n m l h =
-    ⊎-elim
-    (λ (e : leb n m ≡ true). let s : min n m ≡ n = omega (arith, leb-true n m e) in rw s)
-    (λ (e : leb n m ≡ false).
-    let s : min n m ≡ m = omega (arith, leb-false n m e) in
-    let k : length l ≤ n = omega (arith, leb-false n m e) in
-    rw s (take-all m l h ∙ sym (take-all n l k)))
-    (which (leb n m))

@@ -1,6 +1,6 @@
 -- Laws of Bools that every proof uses: what a test that came out true or false says of its parts.
 -- Assumes nothing.
-use mathlib.Core.Path.{_≡_, refl}
+use mathlib.Core.Path.{_≡_, refl, sym}
 use mathlib.Core.Bool.{Bool, true, false, _&&_, _||_, not}
 use mathlib.Core.Logic.{_⊎_, inl, inr}
 
@@ -15,14 +15,6 @@ and-r false b e = cc
 
 pub no-and : (a b : Bool) → a ≡ false → (a && b) ≡ false
 no-and a b e = simp e
-
-pub with-true : (a : Bool) → a ≡ (a && true)
-with-true true = refl
-with-true false = refl
-
-pub with-false : (a : Bool) → false ≡ (a && false)
-with-false true = refl
-with-false false = refl
 
 pub or-l : (a b : Bool) → (a || b) ≡ true → b ≡ false → a ≡ true
 or-l true b e f = refl
@@ -65,3 +57,9 @@ which false = inr refl
 pub refute : (b : Bool) → (b ≡ true → ⊥) → b ≡ false
 refute true h = absurd (h refl)
 refute false h = refl
+
+-- two Bools that hold together are equal
+pub together : (a b : Bool) → (a ≡ true → b ≡ true) → (b ≡ true → a ≡ true) → a ≡ b
+together true b f g = sym (f refl)
+together false true f g = g refl
+together false false f g = refl

@@ -11,7 +11,7 @@ use lib.Dec.{ltb, eqb}
 use native.Mathlib.Omega.{arith}
 use borrow.Author.Tests.{ltb-true, ltb-false, eqb-true, eqb-false, lt-ltb, le-ltb, not-true}
 use Rattle.purse.specs.Lists.{all, among, distinct, keep, total, without, sumTo}
-use Rattle.purse.proofs.Bools.{and-l, and-r, either, and-i, nor-l, nor-r, not-i, which, refute}
+use Rattle.purse.proofs.Bools.{and-l, and-r, either, and-i, nor-l, nor-r, not-i, which, refute, together}
 
 -- not once is never
 pub none : (n : ℕ) → (1 ≤ n → ⊥) → n ≡ 0
@@ -72,6 +72,13 @@ module _ {A : Type 0} (same : A → A → Bool) where
   times-apart x l h = refute (among same x l) (λ (e : among same x l ≡ true). omega (arith, among-times x l e))
 
 module _ {A : Type 0} (same : A → A → Bool) (eq : (x y : A) → same x y ≡ true → x ≡ y) (rf : (x : A) → same x x ≡ true) where
+  -- being the same is symmetric
+  pub turn : (x y : A) → same x y ≡ same y x
+  turn x y =
+      together (same x y) (same y x)
+      (λ (e : same x y ≡ true). ap (λ (z : A). same y z) (eq x y e) ∙ rf y)
+      (λ (e : same y x ≡ true). ap (λ (z : A). same x z) (eq y x e) ∙ rf x)
+
   -- no two the same: each stands at most once
   pub is-distinct : (l : List A) → distinct same l ≡ true → (x : A) → times same x l ≤ 1
   is-distinct [] h x = omega arith
@@ -159,18 +166,6 @@ module _ {A : Type 0} (same : A → A → Bool) (eq : (x y : A) → same x y ≡
   pub total-eq : (w : A → ℕ) (s t : List A) → ((x : A) → times same x s ≡ times same x t) → total w s ≡ total w t
   total-eq w s t h =
       omega (arith, total-le w s t (λ (x : A). omega (arith, h x)), total-le w t s (λ (x : A). omega (arith, h x)))
-
--- each member, by its place
-pub all-at : {A : Type 0} (f : A → Bool) (z : A) (l : List A) (i : ℕ) → all f l ≡ true → i < length l → f (getD l i z) ≡ true
-all-at f z [] i h g = absurd (omega arith)
-all-at f z (x ∷ l) zero h g = and-l (f x) (all f l) h
-all-at f z (x ∷ l) (suc i) h g = all-at f z l i (and-r (f x) (all f l) h) (omega arith)
-
--- each of the first n
-pub all-take : {A : Type 0} (f : A → Bool) (z : A) (n : ℕ) (l : List A) → n ≤ length l → ((i : ℕ) → i < n → f (getD l i z) ≡ true) → all f (take n l) ≡ true
-all-take f z zero l h g = refl
-all-take f z (suc n) [] h g = absurd (omega arith)
-all-take f z (suc n) (x ∷ l) h g = and-i (g zero (omega arith)) (all-take f z n l (omega arith) (λ (i : ℕ) (k : i < n). g (suc i) (omega arith)))
 
 -- sums
 pub total-append : {A : Type 0} (w : A → ℕ) (s t : List A) → total w (s ++ t) ≡ total w s + total w t

@@ -1,6 +1,7 @@
 pub mod Bools
 pub mod Tests
 pub mod Lists
+pub mod Walks
 pub mod Payments
 pub mod Log
 pub mod Rules

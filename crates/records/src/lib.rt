@@ -77,10 +77,10 @@ pub fn replaced(table: &mut [Purse], desk: Desk, by: Answered) -> Reply
         };
     }
     let from = table_of(by);
-    let mut i = 0;
-    while i < 32 {
-        table[i] = from[i];
-        i = i + 1;
+    let mut to = 0;
+    while to < 32 {
+        table[to] = from[to];
+        to = to + 1;
     }
     let d = by.held.desk;
     Reply {

@@ -1,8 +1,8 @@
 -- What the rules about a status and the expected message come to, status by status and kind by kind: the code goes by `match`.
 -- Each follows by computing the tests of that number, the others being false. Assumes nothing.
 use Prim.Native.Nat.{ℕ, _+_, _<_, _≤_}
-use mathlib.Core.Path.{_≡_, refl, _∙_, sym}
-use mathlib.Core.Bool.{Bool, true, false, _&&_, _||_}
+use mathlib.Core.Path.{_≡_, _∙_, sym}
+use mathlib.Core.Bool.{Bool, true, false, _&&_, _||_, and-false, or-false}
 use mathlib.Core.Logic.{⊎-elim}
 use lib.Dec.{ltb, leb, eqb}
 use native.Mathlib.Omega.{arith}
@@ -14,14 +14,6 @@ use Rattle.purse.specs.Details.{zeroDetails, sameDetails, named, asPayer, asPay
 use Rattle.purse.specs.Purse.{ceiling, idleOk, busyOk}
 use Rattle.purse.specs.Step.{expected}
 use Rattle.purse.proofs.Bools.{which}
-
-and-false : (a : Bool) → (a && false) ≡ false
-and-false true = refl
-and-false false = refl
-
-or-false : (a : Bool) → (a || false) ≡ a
-or-false true = refl
-or-false false = refl
 
 -- at most 7 is below 8
 seven : (n : ℕ) → leb n 7 ≡ ltb n 8

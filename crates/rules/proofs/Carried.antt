@@ -15,11 +15,13 @@ use Rattle.purse.specs.declared.Purse.{Purse}
 use Rattle.purse.specs.Lists.{all, among, distinct, total, sumTo}
 use Rattle.purse.specs.Tests.{first}
 use Rattle.purse.specs.Details.{sameDetails}
+use Rattle.purse.specs.Purse.{zeroPurse}
 use Rattle.purse.proofs.Bools.{which}
 use Rattle.purse.proofs.Count.{sum-same}
+use Rattle.purse.proofs.Padded.{read-anywhere}
 use Rattle.desk.specs.declared.Held.{Held}
 use Rattle.desk.specs.declared.Answered.{Answered}
-use Rattle.rules.specs.Bench.{Bench, balanceAt}
+use Rattle.rules.specs.Bench.{Bench, purseAt, balanceAt}
 use Rattle.rules.specs.Table.{tableOk}
 use Rattle.rules.specs.Events.{decoded}
 use Rattle.rules.specs.Steps.{step}
@@ -30,7 +32,6 @@ use Rattle.rules.specs.HeldPaid.{heldPurse, heldBalance, heldMoved, held
 use Rattle.rules.specs.Orders.{heldOrder}
 use Rattle.rules.proofs.Facts.{is-table}
 use Rattle.rules.proofs.Places.{seen-laid, laid-seen, seen-ok, held-laid, step-laid}
-use Rattle.rules.proofs.Stores.{purse-laid}
 use Rattle.rules.proofs.Kept.{never, keep-step, keep-run}
 use Rattle.rules.proofs.Orders.{event-order, never-two}
 use Rattle.rules.proofs.Refusals.{refused-same, others-same}
@@ -69,6 +70,10 @@ moved-laid k b (l ∷ ls) w =
     ap (λ (h : Held). heldMoved k h ls) (after-laid b l w) ∙ moved-laid k (step b l .bench) ls (keep-step b l w)
     in
     λ i. e i ++ r i
+
+-- what is read at a place of the table, used or not
+purse-laid : (b : Bench) (p : ℕ) → heldPurse (laid b) p ≡ purseAt b p
+purse-laid b p = read-anywhere 32 zeroPurse (b .purses) p
 
 balance-laid : (b : Bench) (p : ℕ) → heldBalance (laid b) p ≡ balanceAt b p
 balance-laid b p = ap (λ (q : Purse). q .balance .0) (purse-laid b p)

@@ -57,6 +57,10 @@ entry-equal e f h =
     let d : e .details ≡ f .details = details-equal _ _ (and-r (eqb (e .by .0) (f .by .0)) (sameDetails (e .details) (f .details)) h) in
     λ i. record { by = record { 0 = n i }; details = d i }
 
+pub entry-same : (e : Entry) → sameEntry e e ≡ true
+unfolding sameEntry
+entry-same e = and-i (eq-eqb (e .by .0) _ refl) (details-same (e .details))
+
 -- how often details, or a message, stand in a list
 abbrev pub countD : Details → List Details → ℕ
 countD = times sameDetails
@@ -207,6 +211,53 @@ archive-is b (e ∷ es) h =
     h n d
     (⊎-elim (λ (a : eqb (e .by .0) n ≡ true). rw a (omega arith)) (λ (a : eqb (e .by .0) n ≡ false). rw a t) (which (eqb (e .by .0) n)))))
 
+-- the rules of the lists, one by one
+pub record Lists (b : Bench) : Type 0 where
+  pub counts : countsOk b ≡ true
+  pub purse : (p : ℕ) → p < length (b .purses) → purseOk b p ≡ true
+  pub messages : all (messageOk b) (b .messages) ≡ true
+  pub entries : all (archiveOk b) (b .archive) ≡ true
+  pub once : (p : ℕ) → p < length (b .purses) → onceOk b p ≡ true
+  pub apart : distinct sameMessage (b .messages) ≡ true
+  pub clear : all (clearOk b) (b .messages) ≡ true
+
+pub is-lists : (b : Bench) → tableOk b ≡ true → Lists b
+unfolding tableOk
+is-lists b h =
+    let n : ℕ = length (b .purses) in
+    let c : Bool = countsOk b in
+    let p : Bool = every n (purseOk b) in
+    let m : Bool = all (messageOk b) (b .messages) in
+    let e : Bool = all (archiveOk b) (b .archive) in
+    let o : Bool = every n (onceOk b) in
+    let d : Bool = distinct sameMessage (b .messages) in
+    let h6 : (c && p && m && e && o && d) ≡ true = and-l (c && p && m && e && o && d) (all (clearOk b) (b .messages)) h in
+    let h5 : (c && p && m && e && o) ≡ true = and-l (c && p && m && e && o) d h6 in
+    let h4 : (c && p && m && e) ≡ true = and-l (c && p && m && e) o h5 in
+    let h3 : (c && p && m) ≡ true = and-l (c && p && m) e h4 in
+    record {
+      counts = and-l c p (and-l (c && p) m h3);
+      purse = λ i g. every-at (purseOk b) n i (and-r c p (and-l (c && p) m h3)) g;
+      messages = and-r (c && p) m h3;
+      entries = and-r (c && p && m) e h4;
+      once = λ i g. every-at (onceOk b) n i (and-r (c && p && m && e) o h5) g;
+      apart = and-r (c && p && m && e && o) d h6;
+      clear = and-r (c && p && m && e && o && d) (all (clearOk b) (b .messages)) h;
+    }
+
+pub lists-is : (b : Bench) → Lists b → tableOk b ≡ true
+unfolding tableOk
+lists-is b l =
+    and-i
+    (and-i
+    (and-i
+    (and-i
+    (and-i (and-i (l .counts) (every-all (purseOk b) (length (b .purses)) (l .purse))) (l .messages))
+    (l .entries))
+    (every-all (onceOk b) (length (b .purses)) (l .once)))
+    (l .apart))
+    (l .clear)
+
 -- the whole table
 pub record Table (b : Bench) : Type 0 where
   pub some : 1 ≤ length (b .purses)
@@ -222,69 +273,54 @@ pub record Table (b : Bench) : Type 0 where
   pub clear : (m : Message) → 1 ≤ countM m (b .messages) → ClearOk b m
 
 pub is-table : (b : Bench) → tableOk b ≡ true → Table b
-unfolding tableOk countsOk purseOk onceOk
+unfolding countsOk purseOk onceOk
 is-table b h =
+    let r : Lists b = is-lists b h in
     let n : ℕ = length (b .purses) in
-    let cs : Bool = countsOk b in
-    let ps : Bool = every n (purseOk b) in
-    let ms : Bool = all (messageOk b) (b .messages) in
-    let es : Bool = all (archiveOk b) (b .archive) in
-    let os : Bool = every n (onceOk b) in
-    let ds : Bool = distinct sameMessage (b .messages) in
-    let ks : Bool = all (clearOk b) (b .messages) in
-    let h6 : (cs && ps && ms && es && os && ds) ≡ true = and-l (cs && ps && ms && es && os && ds) ks h in
-    let h5 : (cs && ps && ms && es && os) ≡ true = and-l (cs && ps && ms && es && os) ds h6 in
-    let h4 : (cs && ps && ms && es) ≡ true = and-l (cs && ps && ms && es) os h5 in
-    let h3 : (cs && ps && ms) ≡ true = and-l (cs && ps && ms) es h4 in
-    let h2 : (cs && ps) ≡ true = and-l (cs && ps) ms h3 in
     let c1 : Bool = leb 1 n in
     let c2 : Bool = leb n 32 in
     let c3 : Bool = leb (length (b .messages)) 256 in
     let c4 : Bool = leb (length (b .archive)) 256 in
-    let g4 : (c1 && c2 && c3 && c4) ≡ true = and-l cs ps h2 in
-    let g3 : (c1 && c2 && c3) ≡ true = and-l (c1 && c2 && c3) c4 g4 in
+    let g3 : (c1 && c2 && c3) ≡ true = and-l (c1 && c2 && c3) c4 (r .counts) in
     let g2 : (c1 && c2) ≡ true = and-l (c1 && c2) c3 g3 in
     record {
       some = leb-true _ _ (and-l c1 c2 g2);
       few = leb-true _ _ (and-r c1 c2 g2);
       few-messages = leb-true _ _ (and-r (c1 && c2) c3 g3);
-      few-entries = leb-true _ _ (and-r (c1 && c2 && c3) c4 g4);
-      well = λ p l. and-l (wellFormed (called p) (purseAt b p)) (all (inTable b) (running (purseAt b p) ++ kept (purseAt b p))) (every-at (purseOk b) n p (and-r cs ps h2) l);
+      few-entries = leb-true _ _ (and-r (c1 && c2 && c3) c4 (r .counts));
+      well = λ p l. and-l (wellFormed (called p) (purseAt b p)) (all (inTable b) (running (purseAt b p) ++ kept (purseAt b p))) (r .purse p l);
       names =
           λ p l d t.
           is-in b d
           (is-all sameDetails details-equal details-same (inTable b) (running (purseAt b p) ++ kept (purseAt b p))
-          (and-r (wellFormed (called p) (purseAt b p)) (all (inTable b) (running (purseAt b p) ++ kept (purseAt b p))) (every-at (purseOk b) n p (and-r cs ps h2) l))
+          (and-r (wellFormed (called p) (purseAt b p)) (all (inTable b) (running (purseAt b p) ++ kept (purseAt b p))) (r .purse p l))
           d (rw (times-append sameDetails d (running (purseAt b p)) (kept (purseAt b p))) t));
-      message = λ m t. is-message b m (is-all sameMessage message-equal message-same (messageOk b) (b .messages) (and-r (cs && ps) ms h3) m t);
-      entry = is-archive b (b .archive) (and-r (cs && ps && ms) es h4);
+      message = λ m t. is-message b m (is-all sameMessage message-equal message-same (messageOk b) (b .messages) (r .messages) m t);
+      entry = is-archive b (b .archive) (r .entries);
       once =
           λ p l d.
           rw (times-append sameDetails d (running (purseAt b p)) (loggedBy b p), times-append sameDetails d (kept (purseAt b p)) (archivedBy p (b .archive))) at
-          (is-distinct sameDetails details-equal details-same (running (purseAt b p) ++ loggedBy b p) (every-at (onceOk b) n p (and-r (cs && ps && ms && es) os h5) l) d);
-      alone = is-distinct sameMessage message-equal message-same (b .messages) (and-r (cs && ps && ms && es && os) ds h6);
-      clear = λ m t. is-clear b m (is-all sameMessage message-equal message-same (clearOk b) (b .messages) (and-r (cs && ps && ms && es && os && ds) ks h) m t);
+          (is-distinct sameDetails details-equal details-same (running (purseAt b p) ++ loggedBy b p) (r .once p l) d);
+      alone = is-distinct sameMessage message-equal message-same (b .messages) (r .apart);
+      clear = λ m t. is-clear b m (is-all sameMessage message-equal message-same (clearOk b) (b .messages) (r .clear) m t);
     }
 
 pub table-is : (b : Bench) → Table b → tableOk b ≡ true
-unfolding tableOk countsOk purseOk onceOk
+unfolding countsOk purseOk onceOk
 table-is b t =
-    let n : ℕ = length (b .purses) in
-    and-i
-    (and-i
-    (and-i
-    (and-i
-    (and-i
-    (and-i
-    (and-i (and-i (and-i (le-leb _ _ (t .some)) (le-leb _ _ (t .few))) (le-leb _ _ (t .few-messages))) (le-leb _ _ (t .few-entries)))
-    (every-all (purseOk b) n (λ (p : ℕ) (l : p < n).
-    and-i (t .well p l)
-    (all-is sameDetails details-equal details-same (inTable b) (running (purseAt b p) ++ kept (purseAt b p)) (λ (d : Details) (c : 1 ≤ countD d (running (purseAt b p) ++ kept (purseAt b p))).
-    in-is b d (t .names p l d (rw (times-append sameDetails d (running (purseAt b p)) (kept (purseAt b p))) at c)))))))
-    (all-is sameMessage message-equal message-same (messageOk b) (b .messages) (λ m c. message-is b m (t .message m c))))
-    (archive-is b (b .archive) (t .entry)))
-    (every-all (onceOk b) n (λ (p : ℕ) (l : p < n).
-    distinct-is sameDetails details-equal details-same (running (purseAt b p) ++ loggedBy b p) (λ (d : Details).
-    rw (times-append sameDetails d (running (purseAt b p)) (loggedBy b p), times-append sameDetails d (kept (purseAt b p)) (archivedBy p (b .archive))) (t .once p l d)))))
-    (distinct-is sameMessage message-equal message-same (b .messages) (t .alone)))
-    (all-is sameMessage message-equal message-same (clearOk b) (b .messages) (λ m c. clear-is b m (t .clear m c)))
+    lists-is b (record {
+      counts = and-i (and-i (and-i (le-leb _ _ (t .some)) (le-leb _ _ (t .few))) (le-leb _ _ (t .few-messages))) (le-leb _ _ (t .few-entries));
+      purse =
+          λ p l.
+          and-i (t .well p l)
+          (all-is sameDetails details-equal details-same (inTable b) (running (purseAt b p) ++ kept (purseAt b p)) (λ (d : Details) (c : 1 ≤ countD d (running (purseAt b p) ++ kept (purseAt b p))).
+          in-is b d (t .names p l d (rw (times-append sameDetails d (running (purseAt b p)) (kept (purseAt b p))) at c))));
+      messages = all-is sameMessage message-equal message-same (messageOk b) (b .messages) (λ m c. message-is b m (t .message m c));
+      entries = archive-is b (b .archive) (t .entry);
+      once =
+          λ p l.
+          distinct-is sameDetails details-equal details-same (running (purseAt b p) ++ loggedBy b p) (λ (d : Details).
+          rw (times-append sameDetails d (running (purseAt b p)) (loggedBy b p), times-append sameDetails d (kept (purseAt b p)) (archivedBy p (b .archive))) (t .once p l d));
+      apart = distinct-is sameMessage message-equal message-same (b .messages) (t .alone);
+      clear = all-is sameMessage message-equal message-same (clearOk b) (b .messages) (λ m c. clear-is b m (t .clear m c));
+    })

@@ -205,12 +205,6 @@ module _ (b : Bench) (t : Table b) where
         epv = λ m h e k. ap (λ (n : ℕ). isAt 2 (purseAt b n) (m .details)) (sym e) ∙ t .clear m h .epv k;
       })
 
-  -- what a purse runs is in the table
-  running-in : (p : ℕ) → p < length (b .purses) → (purseAt b p .status ≡ 0 → ⊥) → InTable b (purseAt b p .details)
-  running-in p hp s =
-      let e : bit (sameDetails (purseAt b p .details) (purseAt b p .details)) ≡ 1 = rw (details-same (purseAt b p .details)) in
-      t .names p hp (purseAt b p .details) (omega (arith, running-busy (purseAt b p) (purseAt b p .details) s))
-
   here-after : (p : ℕ) (q : Purse) → p < length (b .purses) → purseAt (withPurse b p q) p ≡ q
   here-after p q hp = getD-set-same (b .purses) p q zeroPurse hp
 

@@ -5,7 +5,6 @@ pub mod BrokenTables
 pub mod BrokenPayments
 pub mod Facts
 pub mod Places
-pub mod Stores
 pub mod Puts
 pub mod Purses
 pub mod Ladders

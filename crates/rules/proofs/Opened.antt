@@ -13,7 +13,7 @@ use Rattle.purse.specs.declared.Details.{Details}
 use Rattle.purse.specs.Details.{sameDetails}
 use Rattle.purse.specs.Purse.{ceiling, idleOk, placeOk, logOk, wellFormed}
 use Rattle.purse.specs.Lists.{all}
-use Rattle.purse.proofs.Count.{all-at}
+use Rattle.purse.proofs.Lists.{all-at}
 use Rattle.purse.proofs.Bools.{and-l, and-r}
 use Rattle.purse.proofs.Tests.{passed}
 use Rattle.rules.specs.Bench.{called, purseAt, running, kept}
@@ -60,7 +60,7 @@ opened-table bs e =
       few = omega (arith, o .few);
       few-messages = omega arith;
       few-entries = omega arith;
-      well = λ (p : ℕ) (l : p < length (map openedAt bs)). rw (opened-at bs p (omega arith)) (well-opened (called p) (getD bs p 0) (leb-true _ _ (all-at (λ (b : ℕ). leb b (ceiling (openedAt b))) 0 bs p (o .low) (omega arith))));
+      well = λ (p : ℕ) (l : p < length (map openedAt bs)). rw (opened-at bs p (omega arith)) (well-opened (called p) (getD bs p 0) (leb-true _ _ (all-at (λ (b : ℕ). leb b (ceiling (openedAt b))) bs 0 p (o .low) (omega arith))));
       names =
           λ (p : ℕ) (l : p < length (map openedAt bs)) (d : Details) (h : 1 ≤ countD d (running (purseAt (opened bs) p)) + countD d (kept (purseAt (opened bs) p))).
           let z : 1 ≤ 0 + 0 = rw (opened-at bs p (omega arith)) at h in absurd (omega arith);

@@ -28,20 +28,33 @@ use Rattle.rules.specs.Events.{decoded}
 use Rattle.rules.specs.Laid.{laid, seen, isZeroPurse, isZeroMessage, isZeroEntry, placesOk, heldOk, heldStep}
 use Rattle.rules.proofs.Facts.{details-equal, message-equal, entry-equal, Table, is-table}
 
-module _ {A : Type 0} where
-  -- places with zeros behind the first n are those n, in their places
-  pub laid-places : (f : A → Bool) (z : A) (zeroed : (x : A) → f x ≡ true → x ≡ z) (many n : ℕ) (l : List A) → placesOk f many n l ≡ true → padded many z (take n l) ≡ l
-  laid-places f z zeroed many n l h =
-      let h1 : (eqb (length l) many && leb n many) ≡ true = and-l (eqb (length l) many && leb n many) (all f (drop n l)) h in
-      let long : length l ≡ many = eqb-true _ _ (and-l (eqb (length l) many) (leb n many) h1) in
-      let fits : n ≤ many = leb-true _ _ (and-r (eqb (length l) many) (leb n many) h1) in
-      let rest : drop n l ≡ replicate (length (drop n l)) z = replicate-all f z zeroed (drop n l) (and-r (eqb (length l) many && leb n many) (all f (drop n l)) h) in
-      let m : many - length (take n l) ≡ length (drop n l) = omega (arith, length-take-le n l (omega arith), length-drop n l) in
+-- places that obey: as many as there must be, no more of them used, the others zero
+module _ {A : Type 0} (f : A → Bool) (many n : ℕ) (l : List A) (h : placesOk f many n l ≡ true) where
+  fitting : (eqb (length l) many && leb n many) ≡ true
+  fitting = and-l (eqb (length l) many && leb n many) (all f (drop n l)) h
+
+  pub places-long : length l ≡ many
+  places-long = eqb-true _ _ (and-l (eqb (length l) many) (leb n many) fitting)
+
+  pub places-fit : n ≤ many
+  places-fit = leb-true _ _ (and-r (eqb (length l) many) (leb n many) fitting)
+
+  pub places-used : length (take n l) ≡ n
+  places-used = length-take-le n l (omega (arith, places-long, places-fit))
+
+  pub places-rest : all f (drop n l) ≡ true
+  places-rest = and-r (eqb (length l) many && leb n many) (all f (drop n l)) h
+
+  -- they are the first n, zeros behind them
+  pub laid-places : (z : A) → ((x : A) → f x ≡ true → x ≡ z) → padded many z (take n l) ≡ l
+  laid-places z zeroed =
+      let rest : drop n l ≡ replicate (length (drop n l)) z = replicate-all f z zeroed (drop n l) places-rest in
+      let m : many - length (take n l) ≡ length (drop n l) = omega (arith, places-used, places-long, length-drop n l) in
       ap (λ (k : ℕ). take n l ++ replicate k z) m ∙ (ap (λ (r : List A). take n l ++ r) (sym rest) ∙ take-append-drop n l)
 
-  pub places-laid : (f : A → Bool) (z : A) → f z ≡ true → (many : ℕ) (l : List A) → length l ≤ many → placesOk f many (length l) (padded many z l) ≡ true
-  places-laid f z e many l h =
-      and-i (and-i (eq-eqb _ _ (length-padded many z l h)) (le-leb _ _ h)) (rw (rest-back many z l) (all-replicate f z (many - length l) e))
+pub places-laid : {A : Type 0} (f : A → Bool) (z : A) → f z ≡ true → (many : ℕ) (l : List A) → length l ≤ many → placesOk f many (length l) (padded many z l) ≡ true
+places-laid f z e many l h =
+    and-i (and-i (eq-eqb _ _ (length-padded many z l h)) (le-leb _ _ h)) (rw (rest-back many z l) (all-replicate f z (many - length l) e))
 
 -- zero is what the tests say
 pub message-zero : (m : Message) → isZeroMessage m ≡ true → m ≡ zeroMessage
@@ -99,51 +112,56 @@ seen-laid b =
     let e : take (length (b .archive)) (padded 256 zeroEntry (b .archive)) ≡ b .archive = taken-back 256 zeroEntry (b .archive) in
     λ i. record { purses = p i; messages = m i; archive = e i }
 
+-- a table and desk that obey the rules, part by part
+pub record Obeys (h : Held) : Type 0 where
+  pub purses : placesOk isZeroPurse 32 (h .desk .purses) (h .table) ≡ true
+  pub messages : placesOk isZeroMessage 256 (h .desk .ether .count) (h .desk .ether .places) ≡ true
+  pub entries : placesOk isZeroEntry 256 (h .desk .archive .count) (h .desk .archive .places) ≡ true
+  pub lists : tableOk (seen h) ≡ true
+
+pub obeys : (h : Held) → heldOk h ≡ true → Obeys h
+unfolding heldOk
+obeys h w =
+    let p : Bool = placesOk isZeroPurse 32 (h .desk .purses) (h .table) in
+    let m : Bool = placesOk isZeroMessage 256 (h .desk .ether .count) (h .desk .ether .places) in
+    let e : Bool = placesOk isZeroEntry 256 (h .desk .archive .count) (h .desk .archive .places) in
+    let w3 : (p && m && e) ≡ true = and-l (p && m && e) (tableOk (seen h)) w in
+    let w2 : (p && m) ≡ true = and-l (p && m) e w3 in
+    record { purses = and-l p m w2; messages = and-r p m w2; entries = and-r (p && m) e w3; lists = and-r (p && m && e) (tableOk (seen h)) w }
+
+pub obeyed : (h : Held) → Obeys h → heldOk h ≡ true
+unfolding heldOk
+obeyed h o = and-i (and-i (and-i (o .purses) (o .messages)) (o .entries)) (o .lists)
+
 -- lists that obey the rules obey them in their places
 pub held-laid : (b : Bench) → tableOk b ≡ true → heldOk (laid b) ≡ true
-unfolding heldOk
 held-laid b w =
     let t : Table b = is-table b w in
-    and-i
-    (and-i
-    (and-i (places-laid isZeroPurse zeroPurse zero-purse 32 (b .purses) (t .few)) (places-laid isZeroMessage zeroMessage zero-message 256 (b .messages) (t .few-messages)))
-    (places-laid isZeroEntry zeroEntry zero-entry 256 (b .archive) (t .few-entries)))
-    (ap tableOk (seen-laid b) ∙ w)
+    obeyed (laid b) (record {
+      purses = places-laid isZeroPurse zeroPurse zero-purse 32 (b .purses) (t .few);
+      messages = places-laid isZeroMessage zeroMessage zero-message 256 (b .messages) (t .few-messages);
+      entries = places-laid isZeroEntry zeroEntry zero-entry 256 (b .archive) (t .few-entries);
+      lists = ap tableOk (seen-laid b) ∙ w;
+    })
 
 -- the lists of a well-formed table and desk obey the rules
 pub seen-ok : (h : Held) → heldOk h ≡ true → tableOk (seen h) ≡ true
-unfolding heldOk
-seen-ok h w = and-r (placesOk isZeroPurse 32 (h .desk .purses) (h .table) && placesOk isZeroMessage 256 (h .desk .ether .count) (h .desk .ether .places) && placesOk isZeroEntry 256 (h .desk .archive .count) (h .desk .archive .places)) (tableOk (seen h)) w
+seen-ok h w = obeys h w .lists
 
 -- a well-formed table and desk are their lists, laid out
 pub laid-seen : (h : Held) → heldOk h ≡ true → laid (seen h) ≡ h
-unfolding heldOk
 laid-seen h w =
-    let ps : Bool = placesOk isZeroPurse 32 (h .desk .purses) (h .table) in
-    let ms : Bool = placesOk isZeroMessage 256 (h .desk .ether .count) (h .desk .ether .places) in
-    let es : Bool = placesOk isZeroEntry 256 (h .desk .archive .count) (h .desk .archive .places) in
-    let w3 : (ps && ms && es) ≡ true = and-l (ps && ms && es) (tableOk (seen h)) w in
-    let w2 : (ps && ms) ≡ true = and-l (ps && ms) es w3 in
-    let wp : ps ≡ true = and-l ps ms w2 in
-    let wm : ms ≡ true = and-r ps ms w2 in
-    let we : es ≡ true = and-r (ps && ms) es w3 in
-    let tp : padded 32 zeroPurse (take (h .desk .purses) (h .table)) ≡ h .table = laid-places isZeroPurse zeroPurse purse-zero 32 (h .desk .purses) (h .table) wp in
-    let tm : padded 256 zeroMessage (take (h .desk .ether .count) (h .desk .ether .places)) ≡ h .desk .ether .places = laid-places isZeroMessage zeroMessage message-zero 256 (h .desk .ether .count) (h .desk .ether .places) wm in
-    let te : padded 256 zeroEntry (take (h .desk .archive .count) (h .desk .archive .places)) ≡ h .desk .archive .places = laid-places isZeroEntry zeroEntry entry-zero 256 (h .desk .archive .count) (h .desk .archive .places) we in
-    let np : length (take (h .desk .purses) (h .table)) ≡ h .desk .purses = fits isZeroPurse 32 (h .desk .purses) (h .table) wp in
-    let nm : length (take (h .desk .ether .count) (h .desk .ether .places)) ≡ h .desk .ether .count = fits isZeroMessage 256 (h .desk .ether .count) (h .desk .ether .places) wm in
-    let ne : length (take (h .desk .archive .count) (h .desk .archive .places)) ≡ h .desk .archive .count = fits isZeroEntry 256 (h .desk .archive .count) (h .desk .archive .places) we in
+    let o : Obeys h = obeys h w in
+    let tp = laid-places isZeroPurse 32 (h .desk .purses) (h .table) (o .purses) zeroPurse purse-zero in
+    let tm = laid-places isZeroMessage 256 (h .desk .ether .count) (h .desk .ether .places) (o .messages) zeroMessage message-zero in
+    let te = laid-places isZeroEntry 256 (h .desk .archive .count) (h .desk .archive .places) (o .entries) zeroEntry entry-zero in
+    let np = places-used isZeroPurse 32 (h .desk .purses) (h .table) (o .purses) in
+    let nm = places-used isZeroMessage 256 (h .desk .ether .count) (h .desk .ether .places) (o .messages) in
+    let ne = places-used isZeroEntry 256 (h .desk .archive .count) (h .desk .archive .places) (o .entries) in
     λ i. record {
       table = tp i;
       desk = record { purses = np i; ether = record { places = tm i; count = nm i }; archive = record { places = te i; count = ne i } };
     }
-  where
-    fits : {A : Type 0} (f : A → Bool) (many n : ℕ) (l : List A) → placesOk f many n l ≡ true → length (take n l) ≡ n
-    fits f many n l h =
-        let h1 : (eqb (length l) many && leb n many) ≡ true = and-l (eqb (length l) many && leb n many) (all f (drop n l)) h in
-        let long : length l ≡ many = eqb-true _ _ (and-l (eqb (length l) many) (leb n many) h1) in
-        let small : n ≤ many = leb-true _ _ (and-r (eqb (length l) many) (leb n many) h1) in
-        length-take-le n l (omega arith)
 
 -- the step on laid lists is the step on the lists
 pub step-laid : (b : Bench) (l : List ℕ) → tableOk b ≡ true → heldStep (laid b) l ≡ record { answer = step b l .answer; held = laid (step b l .bench) }

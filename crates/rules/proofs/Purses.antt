@@ -21,7 +21,8 @@ use Rattle.purse.proofs.Bools.{and-l, and-r, no-and, or-l, or-r, either}
 use Rattle.purse.proofs.Rules.{busy, busy-parts, room, wf-log, wf-bounds, Bounds}
 use Rattle.purse.proofs.Payments.{as-payer, as-payee, is-named}
 use Rattle.purse.proofs.Log.{used-at, log-long}
-use Rattle.purse.proofs.Count.{bit, times-append, is-all, all-take}
+use Rattle.purse.proofs.Lists.{all-take}
+use Rattle.purse.proofs.Count.{bit, times-append, is-all}
 use Rattle.rules.specs.Bench.{kept}
 use Rattle.rules.proofs.Facts.{details-equal, details-same, countD}
 
@@ -86,7 +87,7 @@ module _ (own : Name) (p : Purse) (w : wellFormed own p ≡ true) where
   kept-entry =
       let b : Bounds p = wf-bounds own p w in
       is-all sameDetails details-equal details-same (entryOk own (p .next)) (kept p)
-      (all-take (entryOk own (p .next)) zeroDetails (p .logged) (p .log) (omega (arith, log-long own p (wf-log own p w), b .logged)) (λ (i : ℕ) (l : i < p .logged).
+      (all-take (entryOk own (p .next)) (p .log) zeroDetails (p .logged) (omega (arith, log-long own p (wf-log own p w), b .logged)) (λ (i : ℕ) (l : i < p .logged).
       used-at own p (wf-log own p w) i (omega (arith, b .logged)) l .entry))
 
   -- the log after an abort: the running details at its end

@@ -10,7 +10,6 @@ use mathlib.Core.List.{List, _++_}
 use lib.ListN.{length, take, drop, getD, length-drop}
 use lib.Seq.{length-take-le, getD-take, getD-drop}
 use lib.Dec.{ltb, leb, eqb}
-use native.Mathlib.Numerals.{add-one}
 use native.Mathlib.Omega.{arith}
 use borrow.Author.Tests.{leb-true, le-leb, ltb-true, ltb-false, lt-ltb, le-ltb, eqb-true, eq-eqb}
 use Rattle.purse.specs.declared.Details.{Details}
@@ -19,78 +18,29 @@ use Rattle.purse.specs.declared.Purse.{Purse}
 use Rattle.purse.specs.Lists.{every, all, distinct}
 use Rattle.purse.specs.Details.{zeroMessage, sameDetails, sameMessage}
 use Rattle.purse.specs.Purse.{zeroPurse, wellFormed}
-use Rattle.purse.proofs.Bools.{and-l, and-r, and-i, which}
-use Rattle.purse.proofs.Lists.{every-at, every-all}
+use Rattle.purse.proofs.Bools.{and-l, and-r, and-i, which, together}
+use Rattle.purse.proofs.Lists.{every-at, every-all, all-at, all-places, all-each, all-both}
 use Rattle.desk.specs.declared.Entry.{Entry}
 use Rattle.desk.specs.declared.Desk.{Desk}
 use Rattle.desk.specs.declared.Held.{Held}
 use Rattle.desk.specs.Desk.{zeroEntry, sameEntry}
 use Rattle.rules.specs.Bench.{Bench, called, purseAt, running, kept, archivedBy}
-use Rattle.rules.specs.Table.{countsOk, inTable, purseOk, messageOk, archiveOk, onceOk, clearOk, tableOk}
+use Rattle.rules.specs.Table.{countsOk, inTable, purseOk, messageOk, archiveOk, onceOk, clearOk}
 use Rattle.rules.specs.Laid.{seen, isZeroPurse, isZeroMessage, isZeroEntry, placesOk, heldOk}
+use Rattle.rules.proofs.Facts.{Lists, is-lists, lists-is, is-table}
+use Rattle.rules.proofs.Places.{places-long, places-fit, places-used, places-rest, Obeys, obeys, obeyed}
 use Rattle.table.specs.Records.{standing, collected, when, within, messageAlone, etherAlone, entryAlone, archiveAlone, deskOk, messageBeside, holds, entryBeside, namesOk, purseBeside, recordOk, byRecords}
-use Rattle.table.proofs.Walks.{and-assoc, all-at, all-is, all-each, all-both}
-use Rattle.table.proofs.Same.{together}
 use Rattle.table.proofs.Beside.{within-table, message-alone, message-beside, message-whole, entry-alone, entry-beside, entry-whole, entry-once}
 use Rattle.table.proofs.Once.{record-apart, archived-apart, apart-archived, once-parts}
 
--- the rules of the lists, one by one
-record Lists (b : Bench) (n : ℕ) : Type 0 where
-  counts : countsOk b ≡ true
-  purse : (i : ℕ) → i < n → purseOk b i ≡ true
-  messages : all (messageOk b) (b .messages) ≡ true
-  entries : all (archiveOk b) (b .archive) ≡ true
-  once : (i : ℕ) → i < n → onceOk b i ≡ true
-  apart : distinct sameMessage (b .messages) ≡ true
-  clear : all (clearOk b) (b .messages) ≡ true
-
-module _ (b : Bench) (n : ℕ) (many : length (b .purses) ≡ n) where
-  is-lists : tableOk b ≡ true → Lists b n
-  unfolding tableOk
-  is-lists h =
-      let c : Bool = countsOk b in
-      let p : Bool = every (length (b .purses)) (purseOk b) in
-      let m : Bool = all (messageOk b) (b .messages) in
-      let e : Bool = all (archiveOk b) (b .archive) in
-      let o : Bool = every (length (b .purses)) (onceOk b) in
-      let d : Bool = distinct sameMessage (b .messages) in
-      let h6 : (c && p && m && e && o && d) ≡ true = and-l (c && p && m && e && o && d) (all (clearOk b) (b .messages)) h in
-      let h5 : (c && p && m && e && o) ≡ true = and-l (c && p && m && e && o) d h6 in
-      let h4 : (c && p && m && e) ≡ true = and-l (c && p && m && e) o h5 in
-      let h3 : (c && p && m) ≡ true = and-l (c && p && m) e h4 in
-      record {
-        counts = and-l c p (and-l (c && p) m h3);
-        purse = λ (i : ℕ) (g : i < n). every-at (purseOk b) (length (b .purses)) i (and-r c p (and-l (c && p) m h3)) (omega arith);
-        messages = and-r (c && p) m h3;
-        entries = and-r (c && p && m) e h4;
-        once = λ (i : ℕ) (g : i < n). every-at (onceOk b) (length (b .purses)) i (and-r (c && p && m && e) o h5) (omega arith);
-        apart = and-r (c && p && m && e && o) d h6;
-        clear = and-r (c && p && m && e && o && d) (all (clearOk b) (b .messages)) h;
-      }
-
-  lists-is : Lists b n → tableOk b ≡ true
-  unfolding tableOk
-  lists-is l =
-      and-i
-      (and-i
-      (and-i
-      (and-i
-      (and-i
-      (and-i (l .counts) (every-all (purseOk b) (length (b .purses)) (λ (i : ℕ) (g : i < length (b .purses)). l .purse i (omega arith))))
-      (l .messages))
-      (l .entries))
-      (every-all (onceOk b) (length (b .purses)) (λ (i : ℕ) (g : i < length (b .purses)). l .once i (omega arith))))
-      (l .apart))
-      (l .clear)
-
 -- the record of purse i, from the bench's rules and back
 module _ (b : Bench) (d : Desk) (many : length (b .purses) ≡ d .purses) (ms : b .messages ≡ standing (d .ether)) (es : b .archive ≡ collected (d .archive)) where
-  purse-beside : Lists b (d .purses) → (i : ℕ) → i < d .purses → purseBeside d i (purseAt b i) ≡ true
+  purse-beside : Lists b → (i : ℕ) → i < d .purses → purseBeside d i (purseAt b i) ≡ true
   unfolding purseBeside namesOk purseOk
   purse-beside l i g =
       let p : Purse = purseAt b i in
-      let own : (wellFormed (called i) p && all (inTable b) (running p ++ kept p)) ≡ true = l .purse i g in
-      let o = rw (once-parts b i) at (l .once i g) in
+      let own : (wellFormed (called i) p && all (inTable b) (running p ++ kept p)) ≡ true = l .purse i (omega arith) in
+      let o = rw (once-parts b i) at (l .once i (omega arith)) in
       and-i
       (and-i
       (and-i
@@ -140,7 +90,7 @@ module _ (b : Bench) (d : Desk) (many : length (b .purses) ≡ d .purses) (ms : 
         (archived-apart (b .archive) a i))
         (all-each (entryBeside i (purseAt b i)) (λ (e : Entry). when (eqb (e .by .0) i) (not (holds (purseAt b i) (e .details)))) (b .archive) (λ (e : Entry) (k : entryBeside i (purseAt b i) e ≡ true). entry-once b (d .purses) many e i k) beside-entries)
 
-  lists-beside : countsOk b ≡ true → all (messageAlone (d .purses)) (b .messages) ≡ true → distinct sameMessage (b .messages) ≡ true → all (entryAlone (d .purses)) (b .archive) ≡ true → distinct sameEntry (b .archive) ≡ true → ((i : ℕ) → i < d .purses → purseBeside d i (purseAt b i) ≡ true) → Lists b (d .purses)
+  lists-beside : countsOk b ≡ true → all (messageAlone (d .purses)) (b .messages) ≡ true → distinct sameMessage (b .messages) ≡ true → all (entryAlone (d .purses)) (b .archive) ≡ true → distinct sameEntry (b .archive) ≡ true → ((i : ℕ) → i < d .purses → purseBeside d i (purseAt b i) ≡ true) → Lists b
   lists-beside c a x e y s =
       let whole : (j : ℕ) → j < length (b .messages) → (messageOk b (getD (b .messages) j zeroMessage) ≡ true) × (clearOk b (getD (b .messages) j zeroMessage) ≡ true) =
       λ (j : ℕ) (g : j < length (b .messages)).
@@ -149,55 +99,44 @@ module _ (b : Bench) (d : Desk) (many : length (b .purses) ≡ d .purses) (ms : 
       (λ (i : ℕ) (k : i < d .purses). all-at (messageBeside i (purseAt b i)) (b .messages) zeroMessage j (beside-messages s i k) g) in
       record {
         counts = c;
-        purse = λ (i : ℕ) (g : i < d .purses). beside-purse s i g;
-        messages = all-is (messageOk b) (b .messages) zeroMessage (λ (j : ℕ) (g : j < length (b .messages)). whole j g .0);
+        purse = λ (i : ℕ) (g : i < length (b .purses)). beside-purse s i (omega arith);
+        messages = all-places (messageOk b) (b .messages) zeroMessage (λ (j : ℕ) (g : j < length (b .messages)). whole j g .0);
         entries =
-            all-is (archiveOk b) (b .archive) zeroEntry (λ (j : ℕ) (g : j < length (b .archive)).
+            all-places (archiveOk b) (b .archive) zeroEntry (λ (j : ℕ) (g : j < length (b .archive)).
             entry-whole b (d .purses) many (getD (b .archive) j zeroEntry)
             (all-at (entryAlone (d .purses)) (b .archive) zeroEntry j e g)
             (λ (i : ℕ) (k : i < d .purses). all-at (entryBeside i (purseAt b i)) (b .archive) zeroEntry j (beside-entries s i k) g));
-        once = λ (i : ℕ) (g : i < d .purses). beside-once s i g y;
+        once = λ (i : ℕ) (g : i < length (b .purses)). beside-once s i (omega arith) y;
         apart = x;
-        clear = all-is (clearOk b) (b .messages) zeroMessage (λ (j : ℕ) (g : j < length (b .messages)). whole j g .1);
+        clear = all-places (clearOk b) (b .messages) zeroMessage (λ (j : ℕ) (g : j < length (b .messages)). whole j g .1);
       }
 
   -- the lists alone
-  lists-alone : Lists b (d .purses) → (all (messageAlone (d .purses)) (b .messages) ≡ true) × (all (entryAlone (d .purses)) (b .archive) ≡ true) × (distinct sameEntry (b .archive) ≡ true)
+  lists-alone : Lists b → (all (messageAlone (d .purses)) (b .messages) ≡ true) × (all (entryAlone (d .purses)) (b .archive) ≡ true) × (distinct sameEntry (b .archive) ≡ true)
   lists-alone l =
       let e : all (entryAlone (d .purses)) (b .archive) ≡ true =
       all-each (archiveOk b) (entryAlone (d .purses)) (b .archive) (λ (x : Entry) (k : archiveOk b x ≡ true). entry-alone b (d .purses) many x k) (l .entries) in (
         all-each (messageOk b) (messageAlone (d .purses)) (b .messages) (λ (m : Message) (k : messageOk b m ≡ true). message-alone b (d .purses) many m k) (l .messages),
         e,
         apart-archived (d .purses) (b .archive) e (λ (i : ℕ) (g : i < d .purses).
-            let o = rw (once-parts b i) at (l .once i g) in
+            let o = rw (once-parts b i) at (l .once i (omega arith)) in
             and-r (distinct sameDetails (running (purseAt b i) ++ kept (purseAt b i))) (distinct sameDetails (archivedBy i (b .archive)))
             (and-l _ (all (λ (x : Entry). when (eqb (x .by .0) i) (not (holds (purseAt b i) (x .details)))) (b .archive)) o)),
       )
 
--- the places of the table and the desk: how many, how many of them used, and the others zero
-module _ {A : Type 0} (f : A → Bool) (many n : ℕ) (l : List A) (h : placesOk f many n l ≡ true) where
-  places-long : length l ≡ many
-  places-long = eqb-true _ _ (and-l (eqb (length l) many) (leb n many) (and-l (eqb (length l) many && leb n many) (all f (drop n l)) h))
-
-  places-fit : n ≤ many
-  places-fit = leb-true _ _ (and-r (eqb (length l) many) (leb n many) (and-l (eqb (length l) many && leb n many) (all f (drop n l)) h))
-
-  places-used : length (take n l) ≡ n
-  places-used = let a : n ≤ length l = omega (arith, places-long, places-fit) in length-take-le n l a
-
-  places-zero : (i : ℕ) (z : A) → n ≤ i → i < many → f (getD l i z) ≡ true
-  places-zero i z g k =
-      let e : n + (i - n) ≡ i = omega arith in
-      let s : f (getD (drop n l) (i - n) z) ≡ true =
-      all-at f (drop n l) z (i - n) (and-r (eqb (length l) many && leb n many) (all f (drop n l)) h)
-      (rw (length-drop n l) (omega (arith, places-long))) in
-      rw (getD-drop n l (i - n) z, e) at s
+-- an unused place is zero
+places-zero : {A : Type 0} (f : A → Bool) (many n : ℕ) (l : List A) → placesOk f many n l ≡ true → (i : ℕ) (z : A) → n ≤ i → i < many → f (getD l i z) ≡ true
+places-zero f many n l h i z g k =
+    let e : n + (i - n) ≡ i = omega arith in
+    let s : f (getD (drop n l) (i - n) z) ≡ true =
+    all-at f (drop n l) z (i - n) (places-rest f many n l h) (rw (length-drop n l) (omega (arith, places-long f many n l h))) in
+    rw (getD-drop n l (i - n) z, e) at s
 
 -- .. and back
 zero-places : {A : Type 0} (f : A → Bool) (many n : ℕ) (l : List A) (z : A) → length l ≡ many → n ≤ many → ((i : ℕ) → n ≤ i → i < many → f (getD l i z) ≡ true) → placesOk f many n l ≡ true
 zero-places f many n l z e k h =
     and-i (and-i (eq-eqb _ _ e) (le-leb _ _ k))
-    (all-is f (drop n l) z (λ (j : ℕ) (g : j < length (drop n l)).
+    (all-places f (drop n l) z (λ (j : ℕ) (g : j < length (drop n l)).
     let m : j < length l - n = rw (length-drop n l) at g in
     rw (getD-drop n l j z) (h (n + j) (omega arith) (omega arith))))
 
@@ -210,12 +149,6 @@ module _ (d : Desk) (i : ℕ) (p : Purse) where
   pub is-unused : d .purses ≤ i → recordOk d i p ≡ isZeroPurse p
   unfolding recordOk
   is-unused g = rw (le-ltb i (d .purses) g)
-
-some : (b : Bench) → countsOk b ≡ true → leb 1 (length (b .purses)) ≡ true
-unfolding countsOk
-some b c =
-    and-l (leb 1 (length (b .purses))) (leb (length (b .purses)) 32)
-    (and-l _ (leb (length (b .messages)) 256) (and-l _ (leb (length (b .archive)) 256) c))
 
 module _ (h : Held) where
   -- a record of the table is the bench's purse
@@ -233,19 +166,14 @@ module _ (h : Held) where
       (le-leb (length (collected (h .desk .archive))) 256 (omega (arith, places-used isZeroEntry 256 (h .desk .archive .count) (h .desk .archive .places) e, places-fit isZeroEntry 256 (h .desk .archive .count) (h .desk .archive .places) e)))
 
   to : heldOk h ≡ true → byRecords h ≡ true
-  unfolding heldOk byRecords deskOk etherAlone archiveAlone
+  unfolding byRecords deskOk etherAlone archiveAlone
   to k =
       let n : ℕ = h .desk .purses in
-      let m : Bool = placesOk isZeroMessage 256 (h .desk .ether .count) (h .desk .ether .places) in
-      let e : Bool = placesOk isZeroEntry 256 (h .desk .archive .count) (h .desk .archive .places) in
-      let p : Bool = placesOk isZeroPurse 32 n (h .table) in
-      let kp : p ≡ true = and-l p m (and-l (p && m) e (and-l (p && m && e) (tableOk (seen h)) k)) in
-      let km : m ≡ true = and-r p m (and-l (p && m) e (and-l (p && m && e) (tableOk (seen h)) k)) in
-      let ke : e ≡ true = and-r (p && m) e (and-l (p && m && e) (tableOk (seen h)) k) in
-      let many : length (take n (h .table)) ≡ n = places-used isZeroPurse 32 n (h .table) kp in
-      let l : Lists (seen h) n = is-lists (seen h) n many (and-r (p && m && e) (tableOk (seen h)) k) in
+      let o : Obeys h = obeys h k in
+      let many : length (take n (h .table)) ≡ n = places-used isZeroPurse 32 n (h .table) (o .purses) in
+      let l : Lists (seen h) = is-lists (seen h) (o .lists) in
       let a = lists-alone (seen h) (h .desk) many refl refl l in
-      let one : leb 1 n ≡ true = rw many at (some (seen h) (l .counts)) in
+      let one : 1 ≤ n = omega (arith, is-table (seen h) (o .lists) .some) in
       let records : (i : ℕ) → i < 32 → recordOk (h .desk) i (getD (h .table) i zeroPurse) ≡ true =
       λ (i : ℕ) (g : i < 32).
       ⊎-elim
@@ -254,17 +182,17 @@ module _ (h : Held) where
       ∙ rw (at-place i (ltb-true i n w)) at (purse-beside (seen h) (h .desk) many refl refl l i (ltb-true i n w)))
       (λ (w : ltb i n ≡ false).
       is-unused (h .desk) i (getD (h .table) i zeroPurse) (ltb-false i n w)
-      ∙ places-zero isZeroPurse 32 n (h .table) kp i zeroPurse (ltb-false i n w) g)
+      ∙ places-zero isZeroPurse 32 n (h .table) (o .purses) i zeroPurse (ltb-false i n w) g)
       (which (ltb i n)) in
       and-i
-      (and-i (eq-eqb _ _ (places-long isZeroPurse 32 n (h .table) kp))
+      (and-i (eq-eqb _ _ (places-long isZeroPurse 32 n (h .table) (o .purses)))
       (and-i
-      (and-i (and-i one (le-leb _ _ (places-fit isZeroPurse 32 n (h .table) kp))) (and-i (and-i km (a .0)) (l .apart)))
-      (and-i (and-i ke (a .1)) (a .2))))
+      (and-i (and-i (le-leb _ _ one) (le-leb _ _ (places-fit isZeroPurse 32 n (h .table) (o .purses)))) (and-i (and-i (o .messages) (a .0)) (l .apart)))
+      (and-i (and-i (o .entries) (a .1)) (a .2))))
       (every-all (λ (i : ℕ). recordOk (h .desk) i (getD (h .table) i zeroPurse)) 32 records)
 
   from : byRecords h ≡ true → heldOk h ≡ true
-  unfolding heldOk byRecords deskOk etherAlone archiveAlone
+  unfolding byRecords deskOk etherAlone archiveAlone
   from k =
       let n : ℕ = h .desk .purses in
       let m : Bool = placesOk isZeroMessage 256 (h .desk .ether .count) (h .desk .ether .places) in
@@ -292,23 +220,25 @@ module _ (h : Held) where
       let s : (i : ℕ) → i < n → purseBeside (h .desk) i (purseAt (seen h) i) ≡ true =
       λ (i : ℕ) (g : i < n).
       rw (at-place i g) (sym (is-used (h .desk) i (getD (h .table) i zeroPurse) g) ∙ kr i (omega arith)) in
-      and-i (and-i (and-i kp pm) pe)
-      (lists-is (seen h) n many
-      (lists-beside (seen h) (h .desk) many refl refl
-      (counts-seen fits long (leb-true 1 n (and-l (leb 1 n) (leb n 32) kc)) pm pe)
-      (and-r m am (and-l (m && am) dm km))
-      (and-r (m && am) dm km)
-      (and-r e ae (and-l (e && ae) de ke))
-      (and-r (e && ae) de ke)
-      s))
+      obeyed h (record {
+        purses = kp;
+        messages = pm;
+        entries = pe;
+        lists =
+            lists-is (seen h)
+            (lists-beside (seen h) (h .desk) many refl refl
+            (counts-seen fits long (leb-true 1 n (and-l (leb 1 n) (leb n 32) kc)) pm pe)
+            (and-r m am (and-l (m && am) dm km))
+            (and-r (m && am) dm km)
+            (and-r e ae (and-l (e && ae) de ke))
+            (and-r (e && ae) de ke)
+            s);
+      })
 
   pub held-by-records : heldOk h ≡ byRecords h
   held-by-records = together (heldOk h) (byRecords h) to from
 
--- a loop over the records: one more of them, and all
-pub more-every : (f : ℕ → Bool) (i : ℕ) (ok₀ : Bool) {ok r : Bool} → ok ≡ (ok₀ && every i f) → r ≡ f i → (ok && r) ≡ (ok₀ && every (i + 1) f)
-more-every f i ok₀ e k = rw (e, k, add-one i) (and-assoc ok₀ (every i f) (f i))
-
+-- a loop over the records, and all of them asked
 pub held-walked : (h : Held) (i : ℕ) (ok₀ : Bool) {ok : Bool} → length (h .table) ≡ 32 → i ≡ 32 → ok₀ ≡ deskOk (h .desk) → ok ≡ (ok₀ && every i (λ (j : ℕ). recordOk (h .desk) j (getD (h .table) j zeroPurse))) → ok ≡ heldOk h
 unfolding byRecords
 held-walked h i ok₀ {ok} long full d k =

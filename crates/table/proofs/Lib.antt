@@ -1,4 +1,3 @@
-pub mod Walks
 pub mod Same
 pub mod Beside
 pub mod Once

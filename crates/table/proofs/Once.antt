@@ -18,6 +18,7 @@ use Rattle.purse.specs.Lists.{all, among, distinct}
 use Rattle.purse.specs.Details.{zeroDetails, sameDetails}
 use Rattle.purse.specs.Purse.{wellFormed}
 use Rattle.purse.proofs.Bools.{and-l, and-r, and-i, not-i, which}
+use Rattle.purse.proofs.Lists.{among-none, distinct-all, distinct-append}
 use Rattle.purse.proofs.Payments.{absent-at}
 use Rattle.purse.proofs.Log.{used-at, log-long}
 use Rattle.purse.proofs.Rules.{wf-log, wf-bounds}
@@ -26,7 +27,6 @@ use Rattle.desk.specs.Desk.{sameEntry}
 use Rattle.rules.specs.Bench.{Bench, purseAt, running, kept, archivedBy}
 use Rattle.rules.specs.Table.{onceOk}
 use Rattle.table.specs.Records.{when, holds, entryAlone}
-use Rattle.table.proofs.Walks.{among-none, distinct-all, distinct-append}
 use Rattle.table.proofs.Same.{turn-number, turn-details}
 
 -- running details and log of a well-formed record

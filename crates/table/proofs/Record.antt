@@ -2,7 +2,7 @@
 -- Assumes nothing.
 use Prim.Native.Nat.{ℕ}
 use mathlib.Core.Path.{_≡_}
-use mathlib.Core.Bool.{true, false, _&&_, _||_, not}
+use mathlib.Core.Bool.{true, false, _&&_, _||_, not, and-true}
 use mathlib.Core.Logic.{⊎-elim}
 use lib.ListN.{length}
 use lib.Dec.{eqb}
@@ -15,7 +15,6 @@ use Rattle.purse.proofs.Bools.{which}
 use Rattle.rules.specs.Bench.{kept}
 use Rattle.rules.specs.Laid.{isZeroPurse}
 use Rattle.table.specs.Records.{within, holds, namesOk}
-use Rattle.table.proofs.Walks.{and-true}
 
 pub names-parts : (n : ℕ) (p : Purse) → namesOk n p ≡ ((eqb (p .status) 0 || within n (p .details)) && all (within n) (kept p))
 unfolding namesOk

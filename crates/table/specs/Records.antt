@@ -27,10 +27,6 @@ standing e = take (e .count) (e .places)
 abbrev pub collected : Archive → List Entry
 collected a = take (a .count) (a .places)
 
--- a count, or all the places where it is larger
-abbrev pub atMost : ℕ → ℕ → ℕ
-atMost n many = cond (ltb many n) many n
-
 -- b, where a holds
 abbrev pub when : Bool → Bool → Bool
 when a b = not a || b

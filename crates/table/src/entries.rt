@@ -54,21 +54,20 @@ fn no_two_equal(a: Archive) -> bool
     ensures { λ r. ⌜ r ≡ distinct sameEntry (collected a) ⌝ }
 {
     let count = at_most(a.count as usize, 256);
-    let mut ok = true;
     let mut i: usize = 0;
     while i < count {
         let e = a.places[i];
-        let mut hit = false;
         let mut j: usize = 0;
         while j < i {
             let o = a.places[j];
-            hit = hit | e.same(o);
+            if e.same(o) {
+                return false;
+            }
             j += 1;
         }
-        ok = ok & !hit;
         i += 1;
     }
-    ok
+    true
 }
 
 pub fn archive_alone(a: Archive, purses: u8) -> bool

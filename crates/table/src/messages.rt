@@ -54,21 +54,20 @@ fn no_two_equal(e: Ether) -> bool
     ensures { λ r. ⌜ r ≡ distinct sameMessage (standing e) ⌝ }
 {
     let count = at_most(e.count as usize, 256);
-    let mut ok = true;
     let mut i: usize = 0;
     while i < count {
         let m = e.places[i];
-        let mut hit = false;
         let mut j: usize = 0;
         while j < i {
             let o = e.places[j];
-            hit = hit | m.same(o);
+            if m.same(o) {
+                return false;
+            }
             j += 1;
         }
-        ok = ok & !hit;
         i += 1;
     }
-    ok
+    true
 }
 
 pub fn ether_alone(e: Ether, purses: u8) -> bool

@@ -1,11 +1,12 @@
 // Places and names that must lie within a count.
 use purse::Details;
 ghost use mathlib.Core.Path.{_≡_};
-ghost use Rattle.table.specs.Records.{atMost, within};
+ghost use Prim.Native.Nat.{min};
+ghost use Rattle.table.specs.Records.{within};
 
 // The count, or all the places where it is larger.
 pub fn at_most(count: usize, many: usize) -> usize
-    ensures { λ r. ⌜ r ≡ atMost count many ⌝ }
+    ensures { λ r. ⌜ r ≡ min count many ⌝ }
 {
     if many < count { many } else { count }
 }

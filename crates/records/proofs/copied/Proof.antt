@@ -171,12 +171,12 @@ module _ {M : Type 1} (𝓤 : URA M) (H : Heap 𝓤) (A : Atoms 𝓤) (W : Given
           Turned t = afterTurn 𝓤 H (Below 𝓤 H A Nearer At t) (afterBlock 𝓤 H (afterSeq 𝓤 H (Wp 𝓤 H C Λ E mir.t-8 (atReturn 𝓤 H E Post)) (atReturn 𝓤 H E Post)))
 
           -- record i is read: it is stored at its place of the local table
-          copies : (t : Upto) → t .0 < 32 → t .0 < length ys → Is T.the-row (getD ys (t .0) zeroPurse) (pval (getD ys (t .0) zeroPurse) ∷ [])
-              → Sq W (Seen (Cx (froom arr l₀ 0) (row T.the-row fullShare (over (t .0) ys r) l₂ 0) (index (t .0)) made count (test false) (fat fullShare tyBool l₇ 0 (vbool (ltb (t .0) 32))) (fat fullShare (tyInt w64) l₈ 0 (vint w64 (t .0 * psize)))
+          copies : (t : Upto) (u : Bool) → t .0 < 32 → t .0 < length ys → Is T.the-row (getD ys (t .0) zeroPurse) (pval (getD ys (t .0) zeroPurse) ∷ [])
+              → Sq W (Seen (Cx (froom arr l₀ 0) (row T.the-row fullShare (over (t .0) ys r) l₂ 0) (index (t .0)) made count (test false) (fat fullShare tyBool l₇ 0 (vbool u)) (fat fullShare (tyInt w64) l₈ 0 (vint w64 (t .0 * psize)))
               (fat fullShare tyPtr l₉ 0 (vptr b (place-of psize o (t .0)))) (fat fullShare T′.mir l₁₀ 0 (pval (getD ys (t .0) zeroPurse))) (froom (tyInt w64) l₁₁ 0) (froom tyPtr l₁₂ 0) (froom tyPtr l₁₃ 0)))
               (runs C Λ E (after 5 mir.turn-1) (anyQ (Turned t)))
           unfolding afterTurn
-          copies t less here was =
+          copies t u less here was =
               let room-here : t .0 < length (over (t .0) ys r) = omega (arith, over-length (t .0) ys r, is .1 .0 .1) in
               assigns ! (bin ! (load ! (from ! (stop !)) (look ! 9 refl)) (lit ! tt) (record { fits = product-fits (t .0) less })) (from ! (stop !)) (init ! 25 refl (tt, record { fits = product-fits (t .0) less })) $
               assigns ! (addr ! (from ! (stop !))) (from ! (stop !)) (init ! 27 refl (tt, tt)) $
@@ -192,11 +192,11 @@ module _ {M : Type 1} (𝓤 : URA M) (H : Heap 𝓤) (A : Atoms 𝓤) (W : Given
               again ! Nearer At t (t .0 + 1, add-one-le less) (add-one-dec 32 (t .0) less))
 
           -- all are copied: the local table is whole again
-          leaves : (t : Upto) → 32 ≤ t .0
-              → Sq W (Seen (Cx (froom arr l₀ 0) (row T.the-row fullShare (over (t .0) ys r) l₂ 0) (index (t .0)) made count (test false) (fat fullShare tyBool l₇ 0 (vbool (ltb (t .0) 32))) (froom (tyInt w64) l₈ 0)
+          leaves : (t : Upto) (u : Bool) → 32 ≤ t .0
+              → Sq W (Seen (Cx (froom arr l₀ 0) (row T.the-row fullShare (over (t .0) ys r) l₂ 0) (index (t .0)) made count (test false) (fat fullShare tyBool l₇ 0 (vbool u)) (froom (tyInt w64) l₈ 0)
               (froom tyPtr l₉ 0) (froom T′.mir l₁₀ 0) (froom (tyInt w64) l₁₁ 0) (froom tyPtr l₁₂ 0) (froom tyPtr l₁₃ 0)))
               (prop (Wp 𝓤 H C Λ E mir.t-8 (atReturn 𝓤 H E Post)))
-          leaves t end =
+          leaves t u end =
               exec ! C Λ E mir.t-8 (atRet E Post) $ move ! (7 ∷ []) $
               shuts-array ! T.the-row (LL.vals T.the-type T′.the-laws) (LL.tells T.the-type T′.the-laws) 32 (over (t .0) ys r) l₂ 0 (over-length (t .0) ys r ∙ is .1 .0 .1) (λ now-is. from-raw ! arr $ move ! (1 ∷ 2 ∷ 3 ∷ 4 ∷ 5 ∷ 6 ∷ 7 ∷ 0 ∷ []) $
               assigns ! (of-opd ! (load ! (from ! (stop !)) (look ! 7 refl))) (from ! (stop !)) (init ! 3 refl (table-typed 𝓤 H A W (over (t .0) ys r) _ now-is)) $ shuts-slice ! tt T.the-row q′ ys b o $ returns ! (look ! 2 refl) $
@@ -209,7 +209,7 @@ module _ {M : Type 1} (𝓤 : URA M) (H : Heap 𝓤) (A : Atoms 𝓤) (W : Given
           turns t =
               assigns ! (bin ! (load ! (from ! (stop !)) (look ! 9 refl)) (lit ! tt) tt) (from ! (stop !)) (init ! 17 refl (tt, tt)) $
               while-test ! (load ! (from ! (stop !)) (look ! 17 refl))
-              (λ z. let less : t .0 < 32 = ltb→lt (t .0) 32 z in
+              (λ z. let less : t .0 < 32 = omega (arith, ltb→lt (t .0) _ z) in
               let here : t .0 < length ys = omega (arith, is-32) in
               assigns ! (bin ! (load ! (from ! (stop !)) (look ! 9 refl)) (lit ! tt) (record { fits = product-fits (t .0) less })) (from ! (stop !)) (init ! 19 refl (tt, record { fits = product-fits (t .0) less })) $
               assigns ! (bin ! (load ! (from ! (fld ! refl (stop !))) (look-in ! 5 (sub ! 0 refl (whole !)))) (load ! (from ! (stop !)) (look ! 19 refl)) tt) (from ! (stop !)) (init ! 21 refl (tt, tt)) $
@@ -217,8 +217,8 @@ module _ {M : Type 1} (𝓤 : URA M) (H : Heap 𝓤) (A : Atoms 𝓤) (W : Given
               elem-out ! T.the-row (Is T.the-row) (shows 𝓤 H A T.the-row) (LL.vals T.the-type T′.the-laws) (LL.tells T.the-type T′.the-laws) q′ ys (t .0) zeroPurse b o here (λ was.
               assigns ! (of-opd ! (load ! (from ! (hop ! (look ! 23 refl) (stop !))) (look-raw ! 0 refl))) (from ! (stop !)) (init ! 25 refl (LL.lawful T.the-type T′.the-laws 𝓤 H A W .typed (getD ys (t .0) zeroPurse) _ was .0)) $
               elem-back ! T.the-row q′ ys (t .0) zeroPurse (pval (getD ys (t .0) zeroPurse) ∷ []) b o here $
-              copies t less here was))
-              (λ z. leaves t (nltb→le (t .0) 32 z))
+              copies t _ less here was))
+              (λ z. leaves t _ (omega (arith, nltb→le (t .0) _ z)))
 
         inside : eqb (length ys) 32 ≡ true → Sq W (‵ Own ∷ ‵ (flft κ q) ∷ Fresh (froom arr l₀ 0) (fat fullShare arr l₂ 0 v) (froom (tyInt w64) l₃ 0) made count (test false)) (runs C Λ E mir.t-6 (atRet E Post))
         inside long =

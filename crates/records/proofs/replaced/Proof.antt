@@ -185,12 +185,12 @@ module _ {M : Type 1} (𝓤 : URA M) (H : Heap 𝓤) (A : Atoms 𝓤) (W : Given
         Turned t = afterTurn 𝓤 H (Below 𝓤 H A Nearer At t) (afterBlock 𝓤 H (afterSeq 𝓤 H (Wp 𝓤 H C Λ E mir.t-8 (atReturn 𝓤 H E Post)) (atReturn 𝓤 H E Post)))
 
         -- record i of the answered table is read: it is stored at its place of the lent one
-        stores : (t : Upto) → t .0 < 32 → t .0 < length fs → Is T.the-row (getD fs (t .0) zeroPurse) (pval (getD fs (t .0) zeroPurse) ∷ [])
-            → Sq W (Stored (t .0) (fat fullShare tyBool l₁₀ 0 (vbool (ltb (t .0) 32))) (fat fullShare (tyInt w64) l₁₁ 0 (vint w64 (t .0 * psize))) (fat fullShare tyPtr l₁₂ 0 (vptr l₄ 0)) (fat fullShare tyPtr l₁₃ 0 (vptr l₄ (place-of psize 0 (t .0))))
+        stores : (t : Upto) (u : Bool) → t .0 < 32 → t .0 < length fs → Is T.the-row (getD fs (t .0) zeroPurse) (pval (getD fs (t .0) zeroPurse) ∷ [])
+            → Sq W (Stored (t .0) (fat fullShare tyBool l₁₀ 0 (vbool u)) (fat fullShare (tyInt w64) l₁₁ 0 (vint w64 (t .0 * psize))) (fat fullShare tyPtr l₁₂ 0 (vptr l₄ 0)) (fat fullShare tyPtr l₁₃ 0 (vptr l₄ (place-of psize 0 (t .0))))
             (fat fullShare T′.mir l₁₄ 0 (pval (getD fs (t .0) zeroPurse))) (froom (tyInt w64) l₁₅ 0) (froom tyPtr l₁₆ 0))
             (runs C Λ E (after 6 mir.turn-1) (anyQ (Turned t)))
         unfolding afterTurn
-        stores t less here was =
+        stores t u less here was =
             let room-here : t .0 < length (over (t .0) fs ys) = omega (arith, over-length (t .0) fs ys, is-32) in
             assigns ! (bin ! (load ! (from ! (stop !)) (look ! 12 refl)) (lit ! tt) (record { fits = product-fits (t .0) less })) (from ! (stop !)) (init ! 32 refl (tt, record { fits = product-fits (t .0) less })) $
             assigns ! (bin ! (load ! (from ! (fld ! refl (stop !))) (look-in ! 4 (sub ! 0 refl (whole !)))) (load ! (from ! (stop !)) (look ! 32 refl)) tt) (from ! (stop !)) (init ! 34 refl (tt, tt)) $
@@ -205,10 +205,10 @@ module _ {M : Type 1} (𝓤 : URA M) (H : Heap 𝓤) (A : Atoms 𝓤) (W : Given
             again ! Nearer At t (t .0 + 1, add-one-le less) (add-one-dec 32 (t .0) less))
 
         -- all are stored: the borrow is shut, and the reply is built
-        leaves : (t : Upto) → 32 ≤ t .0
-            → Sq W (Stored (t .0) (fat fullShare tyBool l₁₀ 0 (vbool (ltb (t .0) 32))) (froom (tyInt w64) l₁₁ 0) (froom tyPtr l₁₂ 0) (froom tyPtr l₁₃ 0) (froom T′.mir l₁₄ 0) (froom (tyInt w64) l₁₅ 0) (froom tyPtr l₁₆ 0))
+        leaves : (t : Upto) (u : Bool) → 32 ≤ t .0
+            → Sq W (Stored (t .0) (fat fullShare tyBool l₁₀ 0 (vbool u)) (froom (tyInt w64) l₁₁ 0) (froom tyPtr l₁₂ 0) (froom tyPtr l₁₃ 0) (froom T′.mir l₁₄ 0) (froom (tyInt w64) l₁₅ 0) (froom tyPtr l₁₆ 0))
             (prop (Wp 𝓤 H C Λ E mir.t-8 (atReturn 𝓤 H E Post)))
-        leaves t end =
+        leaves t u end =
             exec ! C Λ E mir.t-8 (atRet E Post) $ move ! (10 ∷ []) $
             shuts-array ! T.the-row (LL.vals T.the-type T′.the-laws) (LL.tells T.the-type T′.the-laws) 32 fs l₄ 0 long-fs (λ fs-is. from-raw ! arr $ move ! (1 ∷ 2 ∷ 3 ∷ 4 ∷ 5 ∷ 6 ∷ 7 ∷ 8 ∷ 9 ∷ 10 ∷ 0 ∷ []) $
             assigns ! (of-opd ! (load ! (from ! (fld ! refl (fld ! refl (stop !)))) (look-in ! 8 (sub ! 1 refl (sub ! 1 refl (whole !)))))) (from ! (stop !)) (init ! 14 refl (LL.lawful D.the-type D′.the-laws 𝓤 H A W .typed (c .held .desk) _ (desk-is c _ c-was) .0)) $
@@ -224,7 +224,7 @@ module _ {M : Type 1} (𝓤 : URA M) (H : Heap 𝓤) (A : Atoms 𝓤) (W : Given
         turns t =
             assigns ! (bin ! (load ! (from ! (stop !)) (look ! 12 refl)) (lit ! tt) tt) (from ! (stop !)) (init ! 22 refl (tt, tt)) $
             while-test ! (load ! (from ! (stop !)) (look ! 22 refl))
-            (λ z. let less : t .0 < 32 = ltb→lt (t .0) 32 z in
+            (λ z. let less : t .0 < 32 = omega (arith, ltb→lt (t .0) _ z) in
             let here : t .0 < length fs = omega (arith, long-fs) in
             assigns ! (bin ! (load ! (from ! (stop !)) (look ! 12 refl)) (lit ! tt) (record { fits = product-fits (t .0) less })) (from ! (stop !)) (init ! 24 refl (tt, record { fits = product-fits (t .0) less })) $
             assigns ! (addr ! (from ! (stop !))) (from ! (stop !)) (init ! 26 refl (tt, tt)) $
@@ -233,8 +233,8 @@ module _ {M : Type 1} (𝓤 : URA M) (H : Heap 𝓤) (A : Atoms 𝓤) (W : Given
             move ! (10 ∷ []) $ elem-out ! T.the-row (Is T.the-row) (shows 𝓤 H A T.the-row) (LL.vals T.the-type T′.the-laws) (LL.tells T.the-type T′.the-laws) fullShare fs (t .0) zeroPurse l₄ 0 here (λ was.
             assigns ! (of-opd ! (load ! (from ! (hop ! (look ! 30 refl) (stop !))) (look-raw ! 0 refl))) (from ! (stop !)) (init ! 32 refl (LL.lawful T.the-type T′.the-laws 𝓤 H A W .typed (getD fs (t .0) zeroPurse) _ was .0)) $
             elem-back ! T.the-row fullShare fs (t .0) zeroPurse (pval (getD fs (t .0) zeroPurse) ∷ []) l₄ 0 here $ move ! (1 ∷ 2 ∷ 3 ∷ 4 ∷ 5 ∷ 6 ∷ 7 ∷ 8 ∷ 9 ∷ 10 ∷ 0 ∷ []) $
-            stores t less here was))
-            (λ z. leaves t (nltb→le (t .0) 32 z))
+            stores t _ less here was))
+            (λ z. leaves t _ (omega (arith, nltb→le (t .0) _ z)))
 
         inside : Sq W (Cx (Own ys) (flft κ q) (froom Y′.mir l₀ 0) (froom arr l₄ 0) (froom (tyInt w64) l₅ 0) (froom D′.mir l₆ 0) count (test false) (froom arr l₉ 0) (froom tyBool l₁₀ 0) (froom (tyInt w64) l₁₁ 0) (froom tyPtr l₁₂ 0)
             (froom tyPtr l₁₃ 0) (froom T′.mir l₁₄ 0) (froom (tyInt w64) l₁₅ 0) (froom tyPtr l₁₆ 0)) (lands C Λ E (place 9 []) v mir.t-5 (atRet E Post))

@@ -47,11 +47,12 @@ use denote.Exit.{yes}
 use Rattle.purse.specs.declared.Purse.{Purse}
 use Rattle.purse.specs.Purse.{zeroPurse}
 use Rattle.purse.specs.Lists.{every}
+use Rattle.purse.proofs.Walks.{more-every}
 use Rattle.desk.specs.declared.Desk.{Desk}
 use Rattle.records.specs.Lent.{held}
 use Rattle.rules.specs.Laid.{heldOk}
 use Rattle.table.specs.Records.{deskOk, recordOk, byRecords}
-use Rattle.table.proofs.Held.{held-by-records, more-every}
+use Rattle.table.proofs.Held.{held-by-records}
 use Rattle.lent.proofs.Lent.{after, while-test, if-test, gone, place-of, place-is, if-false, not-not}
 use Rattle.records.proofs.Structs.{pval, psize, dval}
 use Rattle.records.proofs.Calls.{DeskOkC, RecordOkC, calls-desk-ok, calls-record-ok}
@@ -204,7 +205,7 @@ module _ {M : Type 1} (𝓤 : URA M) (H : Heap 𝓤) (A : Atoms 𝓤) (W : Given
           turns t =
               assigns ! (bin ! (load ! (from ! (stop !)) (look ! 11 refl)) (lit ! tt) tt) (from ! (stop !)) (init ! 17 refl (tt, tt)) $
               while-test ! (load ! (from ! (stop !)) (look ! 17 refl))
-              (λ z. let less : t .0 < 32 = ltb→lt (t .0) 32 z in
+              (λ z. let less : t .0 < 32 = omega (arith, ltb→lt (t .0) _ z) in
               let here : t .0 < length ys = omega (arith, is-32) in
               assigns ! (bin ! (load ! (from ! (stop !)) (look ! 11 refl)) (lit ! tt) (record { fits = product-fits (t .0) less })) (from ! (stop !)) (init ! 19 refl (tt, record { fits = product-fits (t .0) less })) $
               assigns ! (bin ! (load ! (from ! (fld ! refl (stop !))) (look-in ! 5 (sub ! 0 refl (whole !)))) (load ! (from ! (stop !)) (look ! 19 refl)) tt) (from ! (stop !)) (init ! 21 refl (tt, tt)) $
@@ -216,7 +217,7 @@ module _ {M : Type 1} (𝓤 : URA M) (H : Heap 𝓤) (A : Atoms 𝓤) (W : Given
               (and-then ! (load ! (from ! (stop !)) (look ! 24 refl)) (and-then ! (load ! (from ! (stop !)) (look ! 12 refl)) (and-then ! (load ! (from ! (stop !)) (look ! 8 refl)) (no-more !)))) (λ v r is e. answered t less v r _ is e)))
               (λ z. exec ! C Λ E mir.t-7 (atRet E Post) $ assigns ! (of-opd ! (load ! (from ! (stop !)) (look ! 9 refl))) (from ! (stop !)) (init ! 3 refl (tt, tt)) $ shuts-slice ! tt T.the-row q′ ys b o $ returns ! (look ! 2 refl) $
               move ! (2 ∷ 3 ∷ 4 ∷ 5 ∷ 6 ∷ 7 ∷ 8 ∷ 9 ∷ 10 ∷ 11 ∷ 12 ∷ 13 ∷ 14 ∷ 15 ∷ 16 ∷ 17 ∷ 18 ∷ 19 ∷ 20 ∷ 21 ∷ 22 ∷ 23 ∷ []) $ gone ! $ gone ! $ gone ! $ gone ! $ gone ! $ gone ! $ gone ! $ gone ! $ free1 ! $ free1 ! $ free1 ! $ free0 ! $
-              by ! (exits (upto ys d (t .0)) (all-seen ys d (t .0) long (nltb→le (t .0) 32 z) (t .1))))
+              by ! (exits (upto ys d (t .0)) (all-seen ys d (t .0) long (omega (arith, nltb→le (t .0) _ z)) (t .1))))
 
         -- `desk_ok` has answered r
         inside : (v : Val) (r : Bool) → Is Boolean r (v ∷ []) → r ≡ deskOk d → Sq W (‵ Own ∷ ‵ (flft κ q) ∷ Fresh (froom tyBool l₃ 0) (froom (tyInt w64) l₄ 0) count (test false)) (lands C Λ E (place 3 []) v mir.t-5 (atRet E Post))

@@ -11,7 +11,7 @@ archive-alone-requires c κs = search needs
 
 returns : tie.Need-returns
 unfolding deskOk
-returns c = cc
+returns c = rw (c .before .ether-alone .ensures, c .archive-alone .ensures)
 
 pub desk-ok-spec : {M : Type 1} → statement M
 desk-ok-spec = tie.close (tie.spec ether-alone-requires archive-alone-requires returns)

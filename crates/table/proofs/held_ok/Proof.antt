@@ -2,14 +2,15 @@
 -- Assumes nothing.
 use Prim.Native.Nat.{ℕ, _≤_, _<_, _-_}
 use mathlib.Core.Path.{_≡_, ap, sym, _∙_}
-use mathlib.Core.Bool.{_&&_}
+use mathlib.Core.Bool.{_&&_, and-true}
 use lib.ListN.{length, length-map, getD}
 use native.Mathlib.Omega.{arith}
 use Rattle.purse.specs.Lists.{every}
 use Rattle.purse.specs.Purse.{zeroPurse}
+use Rattle.purse.proofs.Lists.{at-any}
+use Rattle.purse.proofs.Walks.{more-every}
 use Rattle.table.specs.Records.{recordOk}
-use Rattle.table.proofs.Walks.{and-true, at-any}
-use Rattle.table.proofs.Held.{more-every, held-walked}
+use Rattle.table.proofs.Held.{held-walked}
 use borrow.Author.Needs.{needs}
 use Rattle.table.proofs.held_ok.Statement.{statement}
 use Rattle.table.proofs.held_ok.Tie as tie

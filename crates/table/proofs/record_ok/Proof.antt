@@ -1,5 +1,6 @@
 -- Below the purse count every part of the record is asked, past it that the record is zero.
 -- Assumes nothing.
+use native.Mathlib.Omega.{arith}
 use borrow.Author.Tests.{lt-ltb, le-ltb}
 use Rattle.table.specs.Records.{recordOk, purseBeside}
 use borrow.Author.Needs.{needs}
@@ -30,9 +31,9 @@ is-zero-requires c κs = search needs
 returns : tie.Need-returns
 unfolding recordOk purseBeside
 returns c =
-    let then = c .before .before .before .before .before .before in
+    let start = c .before .before .before .before .before .before .before in
     rw (
-      lt-ltb _ _ (then .if1 .taken),
+      lt-ltb (start .args .at) (start .args .desk .purses) (omega arith),
       c .before .before .before .well-formed .ensures,
       c .before .before .names-ok .ensures,
       c .before .each-beside .ensures,
@@ -41,7 +42,9 @@ returns c =
 
 returns-2 : tie.Need-returns-2
 unfolding recordOk
-returns-2 c = rw (le-ltb _ _ (c .before .if1 .left)) (c .is-zero .ensures)
+returns-2 c =
+    let start = c .before .before in
+    rw (le-ltb (start .args .at) (start .args .desk .purses) (omega arith)) (c .is-zero .ensures)
 
 pub record-ok-spec : {M : Type 1} → statement M
 record-ok-spec =

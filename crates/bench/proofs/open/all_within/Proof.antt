@@ -1,7 +1,7 @@
 -- `bench::open::all_within` meets its contract: the loop's invariant: what is found of the balances passed, and the rest, is the whole.
 -- Assumes nothing.
 use Rattle.bench.specs.Opens.{within}
-use Rattle.table.proofs.Walks.{rest-more, rest-end}
+use Rattle.purse.proofs.Walks.{rest-more, rest-end}
 use Rattle.purse.specs.Lists.{all}
 use lib.ListN.{length, drop}
 use mathlib.Core.Bool.{_&&_}

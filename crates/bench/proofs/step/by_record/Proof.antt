@@ -3,7 +3,7 @@
 use Rattle.purse.specs.declared.Purse.{Purse}
 use Rattle.bench.proofs.ByRecord.{place-below}
 use Rattle.bench.specs.Acts.{actOn, putBack, byRecord}
-use Rattle.table.proofs.Walks.{at-any}
+use Rattle.purse.proofs.Lists.{at-any}
 use Rattle.purse.specs.Purse.{zeroPurse}
 use lib.ListN.{length, length-map, getD}
 use Prim.Native.Nat.{ℕ, _<_}

@@ -1,8 +1,7 @@
 -- Equal details leave the other field to decide; other details decide alone. Assumes nothing.
 use mathlib.Core.Path.{_≡_, sym, _∙_}
-use mathlib.Core.Bool.{true, false}
+use mathlib.Core.Bool.{true, false, and-true, and-false}
 use lib.Dec.{eqb}
-use Rattle.purse.proofs.Bools.{with-true, with-false}
 use Rattle.desk.specs.declared.Entry.{Entry}
 use Rattle.purse.specs.Details.{sameDetails}
 use Rattle.desk.specs.Desk.{sameEntry}
@@ -12,11 +11,11 @@ use Rattle.desk.proofs.Entry.same.Tie as tie
 
 with-equal : (a b : Entry) → sameDetails (a .details) (b .details) ≡ true → eqb (a .by .0) (b .by .0) ≡ sameEntry a b
 unfolding sameEntry
-with-equal a b e = rw e (with-true (eqb (a .by .0) (b .by .0)))
+with-equal a b e = rw e (sym (and-true (eqb (a .by .0) (b .by .0))))
 
 with-other : (a b : Entry) → sameDetails (a .details) (b .details) ≡ false → false ≡ sameEntry a b
 unfolding sameEntry
-with-other a b e = rw e (with-false (eqb (a .by .0) (b .by .0)))
+with-other a b e = rw e (sym (and-false (eqb (a .by .0) (b .by .0))))
 
 same-requires : tie.Need-same-requires
 same-requires c κs = search needs

@@ -9,7 +9,7 @@ use Rattle.purse.specs.declared.Purse.{Purse}
 use Rattle.listing.specs.Text.{numbered}
 use Rattle.listing.specs.Listing.{purseLine, footWith}
 use Rattle.listing.proofs.Puts.{then, same-bytes}
-use Rattle.listing.proofs.Opened.{take-least}
+use Rattle.purse.proofs.Lists.{take-least}
 use borrow.Author.Needs.{needs}
 use Rattle.listing.proofs.purses.put_foot.Statement.{statement}
 use Rattle.listing.proofs.purses.put_foot.Tie as tie

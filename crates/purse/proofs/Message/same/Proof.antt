@@ -1,8 +1,7 @@
 -- Equal details leave the other field to decide; other details decide alone. Assumes nothing.
 use mathlib.Core.Path.{_≡_, sym, _∙_}
-use mathlib.Core.Bool.{true, false}
+use mathlib.Core.Bool.{true, false, and-true, and-false}
 use lib.Dec.{eqb}
-use Rattle.purse.proofs.Bools.{with-true, with-false}
 use Rattle.purse.specs.declared.Message.{Message}
 use Rattle.purse.specs.Details.{sameDetails, sameMessage}
 use borrow.Author.Needs.{needs}
@@ -11,11 +10,11 @@ use Rattle.purse.proofs.Message.same.Tie as tie
 
 with-equal : (a b : Message) → sameDetails (a .details) (b .details) ≡ true → eqb (a .kind) (b .kind) ≡ sameMessage a b
 unfolding sameMessage
-with-equal a b e = rw e (with-true (eqb (a .kind) (b .kind)))
+with-equal a b e = rw e (sym (and-true (eqb (a .kind) (b .kind))))
 
 with-other : (a b : Message) → sameDetails (a .details) (b .details) ≡ false → false ≡ sameMessage a b
 unfolding sameMessage
-with-other a b e = rw e (with-false (eqb (a .kind) (b .kind)))
+with-other a b e = rw e (sym (and-false (eqb (a .kind) (b .kind))))
 
 same-requires : tie.Need-same-requires
 same-requires c κs = search needs

@@ -5,9 +5,9 @@ use mathlib.Core.Path.{_≡_, refl}
 use lib.ListN.{length, length-map, take}
 use native.Mathlib.Omega.{arith}
 use Rattle.purse.specs.Lists.{all}
+use Rattle.purse.proofs.Walks.{more-all, walked-all}
 use Rattle.desk.specs.Desk.{zeroEntry}
 use Rattle.table.specs.Records.{entryAlone}
-use Rattle.table.proofs.Walks.{bounded, more-all, walked-all}
 use borrow.Author.Needs.{needs}
 use Rattle.table.proofs.entries.each_alone.Statement.{statement}
 use Rattle.table.proofs.entries.each_alone.Tie as tie
@@ -25,7 +25,7 @@ at-most-requires : tie.Need-at-most-requires Inv-loop μ-loop
 at-most-requires c κs = search needs
 
 loop-holds : tie.Need-loop-holds Inv-loop μ-loop
-loop-holds c = (bounded (c .before .args .t1 .count) 256 (c .at-most .ensures), omega arith, refl)
+loop-holds c = (omega arith, omega arith, refl)
 
 mul-e : tie.Need-mul-e Inv-loop μ-loop
 mul-e c = search needs

@@ -1,3 +1,5 @@
+use mathlib.Core.Path.{_≡_}
+use native.Mathlib.Omega.{arith}
 use borrow.Author.Tests.{eq-eqb, ne-eqb}
 use Rattle.table.specs.Records.{entryBeside}
 use borrow.Author.Needs.{needs}
@@ -12,11 +14,15 @@ holds-requires c κs = search needs
 
 returns : tie.Need-returns
 unfolding entryBeside
-returns c = rw (eq-eqb _ _ (c .before .before .if1 .taken), c .before .is-entry .ensures, c .holds .ensures)
+returns c =
+    let start = c .before .before .before .before .before .before in
+    rw (eq-eqb (start .args .e .by .0) (start .args .own .0) (omega arith), c .before .is-entry .ensures, c .holds .ensures)
 
 returns-2 : tie.Need-returns-2
 unfolding entryBeside
-returns-2 c = rw (ne-eqb _ _ (c .if1 .left))
+returns-2 c =
+    let start = c .before .before .before .before in
+    rw (ne-eqb (start .args .e .by .0) (start .args .own .0) (λ (k : start .args .e .by .0 ≡ start .args .own .0). omega arith))
 
 pub entry-beside-spec : {M : Type 1} → statement M
 entry-beside-spec = tie.close (tie.spec is-entry-requires holds-requires returns returns-2)

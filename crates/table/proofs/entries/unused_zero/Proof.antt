@@ -6,9 +6,9 @@ use mathlib.Core.Bool.{_&&_}
 use lib.ListN.{length, length-map, drop, getD}
 use native.Mathlib.Omega.{arith}
 use Rattle.purse.specs.Lists.{all}
+use Rattle.purse.proofs.Walks.{rest-more, rest-end}
 use Rattle.desk.specs.Desk.{zeroEntry, sameEntry}
 use Rattle.rules.specs.Laid.{isZeroEntry}
-use Rattle.table.proofs.Walks.{rest-more, rest-end}
 use borrow.Author.Needs.{needs}
 use Rattle.table.proofs.entries.unused_zero.Statement.{statement}
 use Rattle.table.proofs.entries.unused_zero.Tie as tie

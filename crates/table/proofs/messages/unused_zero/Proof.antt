@@ -7,8 +7,8 @@ use lib.ListN.{length, length-map, drop, getD}
 use native.Mathlib.Omega.{arith}
 use Rattle.purse.specs.Lists.{all}
 use Rattle.purse.specs.Details.{zeroMessage, sameMessage}
+use Rattle.purse.proofs.Walks.{rest-more, rest-end}
 use Rattle.rules.specs.Laid.{isZeroMessage}
-use Rattle.table.proofs.Walks.{rest-more, rest-end}
 use borrow.Author.Needs.{needs}
 use Rattle.table.proofs.messages.unused_zero.Statement.{statement}
 use Rattle.table.proofs.messages.unused_zero.Tie as tie

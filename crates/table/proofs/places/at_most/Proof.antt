@@ -1,12 +1,12 @@
-use borrow.Author.Tests.{lt-ltb, le-ltb}
+use native.Mathlib.Omega.{arith}
 use Rattle.table.proofs.places.at_most.Statement.{statement}
 use Rattle.table.proofs.places.at_most.Tie as tie
 
 returns : tie.Need-returns
-returns c = rw (lt-ltb _ _ (c .if1 .taken))
+returns c = omega arith
 
 returns-2 : tie.Need-returns-2
-returns-2 c = rw (le-ltb _ _ (c .if1 .left))
+returns-2 c = omega arith
 
 pub at-most-spec : {M : Type 1} → statement M
 at-most-spec = tie.close (tie.spec returns returns-2)

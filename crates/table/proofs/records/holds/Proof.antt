@@ -6,8 +6,8 @@ use lib.ListN.{length, length-map, take}
 use native.Mathlib.Omega.{arith}
 use Rattle.purse.specs.Lists.{among}
 use Rattle.purse.specs.Details.{zeroDetails, sameDetails}
+use Rattle.purse.proofs.Walks.{more-any, walked-all}
 use Rattle.rules.specs.Bench.{kept}
-use Rattle.table.proofs.Walks.{bounded, more-any, walked-all}
 use Rattle.table.proofs.Record.{holds-parts}
 use borrow.Author.Needs.{needs}
 use Rattle.table.proofs.records.holds.Statement.{statement}
@@ -26,7 +26,7 @@ at-most-requires : tie.Need-at-most-requires Inv-loop μ-loop
 at-most-requires c κs = search needs
 
 loop-holds : tie.Need-loop-holds Inv-loop μ-loop
-loop-holds c = (bounded (c .before .args .t1 .logged) 8 (c .at-most .ensures), omega arith, refl)
+loop-holds c = (omega arith, omega arith, refl)
 
 mul-e : tie.Need-mul-e Inv-loop μ-loop
 mul-e c = search needs

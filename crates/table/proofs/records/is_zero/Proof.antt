@@ -8,7 +8,7 @@ use Rattle.purse.specs.Lists.{all}
 use lib.Seq.{take-all}
 use Rattle.purse.specs.declared.Details.{Details}
 use Rattle.purse.specs.Details.{zeroDetails, sameDetails}
-use Rattle.table.proofs.Walks.{more-all}
+use Rattle.purse.proofs.Walks.{more-all}
 use Rattle.table.proofs.Record.{zero-parts}
 use borrow.Author.Needs.{needs}
 use Rattle.table.proofs.records.is_zero.Statement.{statement}

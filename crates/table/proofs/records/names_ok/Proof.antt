@@ -6,9 +6,9 @@ use lib.ListN.{length, length-map, take}
 use native.Mathlib.Omega.{arith}
 use Rattle.purse.specs.Lists.{all}
 use Rattle.purse.specs.Details.{zeroDetails}
+use Rattle.purse.proofs.Walks.{more-all, walked-all}
 use Rattle.rules.specs.Bench.{kept}
 use Rattle.table.specs.Records.{within}
-use Rattle.table.proofs.Walks.{bounded, more-all, walked-all}
 use Rattle.table.proofs.Record.{names-parts}
 use borrow.Author.Needs.{needs}
 use Rattle.table.proofs.records.names_ok.Statement.{statement}
@@ -27,7 +27,7 @@ at-most-requires : tie.Need-at-most-requires Inv-loop μ-loop
 at-most-requires c κs = search needs
 
 loop-holds : tie.Need-loop-holds Inv-loop μ-loop
-loop-holds c = (bounded (c .before .args .t1 .logged) 8 (c .at-most .ensures), omega arith, refl)
+loop-holds c = (omega arith, omega arith, refl)
 
 mul-d : tie.Need-mul-d Inv-loop μ-loop
 mul-d c = search needs
