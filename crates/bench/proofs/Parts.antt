@@ -20,7 +20,6 @@ use Rattle.desk.specs.declared.Entry.{Entry}
 use Rattle.desk.specs.declared.Ether.{Ether}
 use Rattle.desk.specs.declared.Archive.{Archive}
 use Rattle.desk.specs.declared.Changed.{Changed}
-use Rattle.desk.specs.declared.Desk.{Desk}
 use Rattle.desk.specs.declared.Held.{Held}
 use Rattle.desk.specs.declared.Answered.{Answered}
 use Rattle.desk.specs.Desk.{added, takenOut, stored}
@@ -29,7 +28,7 @@ use Rattle.rules.specs.Laid.{seen, isZeroPurse, isZeroMessage, isZeroEntry, pla
 use Rattle.rules.specs.Table.{tableOk}
 use Rattle.bench.specs.declared.Chosen.{Chosen}
 use Rattle.bench.specs.declared.Change.the-variants as change
-use Rattle.bench.specs.Acts.{placeOf, deliveredAt, seenAt, chosen, withEther, withArchive, carriedOut, settled, actOn, putBack, byRecord}
+use Rattle.bench.specs.Acts.{placeOf, deliveredAt, chosen, withEther, withArchive, carriedOut, settled, actOn, putBack, byRecord}
 use Rattle.bench.proofs.ByRecord.{stays}
 
 -- what a bench holds, of its parts
@@ -41,28 +40,17 @@ long : {A : Type 0} (f : A → Bool) (many n : ℕ) (l : List A) → placesOk f 
 long f many n l p =
     eqb-true _ _ (and-l (eqb (length l) many) (leb n many) (and-l (eqb (length l) many && leb n many) (all f (drop n l)) p))
 
-module _ (h : Held) (w : heldOk h ≡ true) where
-  ps : Bool
-  ps = placesOk isZeroPurse 32 (h .desk .purses) (h .table)
-
-  ms : Bool
-  ms = placesOk isZeroMessage 256 (h .desk .ether .count) (h .desk .ether .places)
-
-  es : Bool
-  es = placesOk isZeroEntry 256 (h .desk .archive .count) (h .desk .archive .places)
-
-  both : (ps && ms) ≡ true
-  unfolding heldOk ps ms es
-  both = and-l (ps && ms) es (and-l (ps && ms && es) (tableOk (seen h)) w)
-
-  -- a table of 32 records, an ether of 256 places
-  pub long-table : length (h .table) ≡ 32
-  unfolding ps
-  long-table = long isZeroPurse 32 (h .desk .purses) (h .table) (and-l ps ms both)
-
-  pub long-ether : length (h .desk .ether .places) ≡ 256
-  unfolding ms
-  long-ether = long isZeroMessage 256 (h .desk .ether .count) (h .desk .ether .places) (and-r ps ms both)
+-- a table of 32 records, an ether of 256 places
+pub long-parts : (h : Held) → heldOk h ≡ true → (length (h .table) ≡ 32) × (length (h .desk .ether .places) ≡ 256)
+unfolding heldOk
+long-parts h w =
+    let ps : Bool = placesOk isZeroPurse 32 (h .desk .purses) (h .table) in
+    let ms : Bool = placesOk isZeroMessage 256 (h .desk .ether .count) (h .desk .ether .places) in
+    let es : Bool = placesOk isZeroEntry 256 (h .desk .archive .count) (h .desk .archive .places) in
+    let both : (ps && ms) ≡ true = and-l (ps && ms) es (and-l (ps && ms && es) (tableOk (seen h)) w) in (
+      long isZeroPurse 32 (h .desk .purses) (h .table) (and-l ps ms both),
+      long isZeroMessage 256 (h .desk .ether .count) (h .desk .ether .places) (and-r ps ms both),
+    )
 
 module _ (h : Held) (k : ℕ) (c : Chosen) where
   -- what is chosen at the record in place k, settled and put back

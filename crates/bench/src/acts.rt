@@ -15,7 +15,6 @@ use purse::Purse;
 use purse::tested;
 use rules::Event;
 ghost use mathlib.Core.Path.{_≡_};
-ghost use Prim.Native.Nat.{_<_};
 ghost use lib.ListN.{getD};
 ghost use Rattle.purse.specs.Tests.{first};
 ghost use Rattle.purse.specs.Details.{zeroMessage};
@@ -312,13 +311,11 @@ fn settle(p: Purse, desk: Desk, c: Chosen) -> Acted
 pub fn act(p: Purse, desk: Desk, event: Event) -> Acted
     ensures { λ r. ⌜ r ≡ actOn p desk event ⌝ }
 {
-    let ether = desk.ether;
-    let archive = desk.archive;
-    let m = message_at(ether, delivered_at(event));
+    let m = message_at(desk.ether, delivered_at(event));
     let seen = Seen {
         purses: desk.purses,
-        messages: ether.count,
-        entries: archive.count,
+        messages: desk.ether.count,
+        entries: desk.archive.count,
         message: m,
     };
     let c = choose(p, seen, event);

@@ -1,20 +1,19 @@
+-- `bench::runs::each` meets its contract: the loop's invariant is `Going`, of what the bench holds put together of its parts: the run so far,
+-- and the pieces that are left. A turn is one event at the parts (the laws of Parts), by the five ways on which it can go.
+-- Assumes nothing.
 use Rattle.bench.proofs.Filling.{Going, going-start, going-on, going-end}
 use Rattle.bench.proofs.ByRecord.{place-below}
-use Rattle.bench.proofs.Parts.{bench, long-table, long-ether, settledAt, by-chosen, when-refused, when-nothing, when-sent, when-lost, when-stored}
+use Rattle.bench.proofs.Parts.{bench, long-parts, settledAt, by-chosen, when-refused, when-nothing, when-sent, when-lost, when-stored}
 use Rattle.bench.specs.declared.Chosen.{Chosen}
-use Rattle.bench.specs.Acts.{placeOf, deliveredAt, byRecord}
+use Rattle.bench.specs.Acts.{deliveredAt, byRecord}
 use Rattle.table.proofs.Walks.{at-any}
 use Rattle.purse.specs.Details.{zeroMessage}
 use Rattle.purse.specs.Purse.{zeroPurse}
 use Rattle.desk.specs.declared.Answered.{Answered}
 use Rattle.rules.specs.declared.Event.{Event}
-use Rattle.purse.specs.declared.Purse.{Purse}
-use Rattle.desk.specs.declared.Ether.{Ether}
-use Rattle.desk.specs.declared.Archive.{Archive}
 use Rattle.desk.specs.declared.Held.{Held}
 use Rattle.rules.specs.Events.{decoded}
 use lib.ListN.{length, take, drop, getD, List·getD-eq-default}
-use mathlib.Core.List.{List}
 use Prim.Native.Nat.{ℕ, _+_, _*_, _-_, _<_, _≤_}
 use mathlib.Core.Path.{_≡_, _∙_, sym, ap}
 use mathlib.Core.Logic.{⊎-elim}
@@ -22,17 +21,6 @@ use native.Mathlib.Omega.{arith}
 use borrow.Author.Needs.{needs}
 use Rattle.bench.proofs.runs.each.Statement.{statement}
 use Rattle.bench.proofs.runs.each.Tie as tie
-use Rattle.bench.proofs.runs.each.Reads as reads
-use Rattle.bench.proofs.runs.each.Lts as lts
-use Rattle.bench.proofs.acts.choose.Reads as choose-reads
-use Rattle.bench.proofs.acts.delivered_at.Reads as delivered-at-reads
-use Rattle.bench.proofs.acts.place_of.Reads as place-of-reads
-use Rattle.bench.proofs.events.decode.Reads as decode-reads
-use Rattle.desk.proofs.Archive.store.Reads as store-reads
-use Rattle.desk.proofs.Ether.add.Reads as add-reads
-use Rattle.desk.proofs.Ether.take_out.Reads as take-out-reads
-use Rattle.purse.proofs.Message.zero.Reads as zero-reads
-use Rattle.purse.proofs.tested.Reads as tested-reads
 
 abbrev Inv-loop : tie.InvT-loop
 Inv-loop input answers₀ n table₀ purses ether₀ archive₀ i₀ answers table ether archive i = Going (bench table₀ purses ether₀ archive₀) (bench table purses ether archive) input answers₀ answers n i
@@ -40,80 +28,63 @@ Inv-loop input answers₀ n table₀ purses ether₀ archive₀ i₀ answers tab
 abbrev μ-loop : tie.MeasureT-loop
 μ-loop input answers₀ n table₀ purses ether₀ archive₀ i₀ answers table ether archive i = n - i
 
--- src/runs.rt:38:5
 loop-holds : tie.Need-loop-holds Inv-loop μ-loop
 loop-holds c = going-start _ _ _ _ (c .before .before .before .before .before .before .pre .0)
 
--- src/runs.rt:39:18
 mul-at : tie.Need-mul-at Inv-loop μ-loop
 mul-at c = search needs
 
--- src/runs.rt:40:19
 add-end : tie.Need-add-end Inv-loop μ-loop
 add-end c = search needs
 
--- src/runs.rt:41:24
 sub-decode : tie.Need-sub-decode Inv-loop μ-loop
 sub-decode c = search needs
 
--- src/runs.rt:41:24
 part-decode-start : tie.Need-part-decode-start Inv-loop μ-loop
 part-decode-start c = search needs
 
--- src/runs.rt:41:24
 part-decode-end : tie.Need-part-decode-end Inv-loop μ-loop
 part-decode-end c = search needs
 
--- src/runs.rt:41:13
 decode-requires : tie.Need-decode-requires Inv-loop μ-loop
 decode-requires c κs = search needs
 
--- src/runs.rt:42:13
 place-of-requires : tie.Need-place-of-requires Inv-loop μ-loop
 place-of-requires c κs = search needs
 
--- src/runs.rt:43:17
 mul-p : tie.Need-mul-p Inv-loop μ-loop
 mul-p c =
     let placed = c in
     let below : placed .place-of .result < 32 = rw (placed .place-of .ensures) (place-below (placed .before .decode .result)) in
     search needs
 
--- src/runs.rt:43:17
 array-copy-out-p : tie.Need-array-copy-out-p Inv-loop μ-loop
 array-copy-out-p c =
     let placed = c in
     let below : placed .place-of .result < 32 = rw (placed .place-of .ensures) (place-below (placed .before .decode .result)) in
     search needs
 
--- src/runs.rt:44:13
 delivered-at-requires : tie.Need-delivered-at-requires Inv-loop μ-loop
 delivered-at-requires c κs = search needs
 
--- src/runs.rt:46:13
 mul-m : tie.Need-mul-m Inv-loop μ-loop
 mul-m c = search needs
 
--- src/runs.rt:46:13
 element-copy-out-m : tie.Need-element-copy-out-m Inv-loop μ-loop
 element-copy-out-m c = search needs
 
--- src/runs.rt:48:13
 zero-requires : tie.Need-zero-requires Inv-loop μ-loop
 zero-requires c κs = search needs
 
--- src/runs.rt:56:13
 choose-requires : tie.Need-choose-requires Inv-loop μ-loop
 choose-requires c κs = search needs
 
--- src/runs.rt:61:13
 mul-table : tie.Need-mul-table Inv-loop μ-loop
 mul-table c =
     let placed = c .before .before .before .before .before .before in
     let below : placed .place-of .result < 32 = rw (placed .place-of .ensures) (place-below (placed .before .decode .result)) in
     search needs
 
--- src/runs.rt:61:13
 array-set-from-table : tie.Need-array-set-from-table Inv-loop μ-loop
 array-set-from-table c =
     let placed = c .before .before .before .before .before .before in
@@ -123,51 +94,39 @@ array-set-from-table c =
 enum-told : tie.Need-enum-told Inv-loop μ-loop
 enum-told c = search needs
 
--- src/runs.rt:65:30
 enum-known-change : tie.Need-enum-known-change Inv-loop μ-loop
 enum-known-change c = search needs
 
--- src/runs.rt:66:25
 add-requires : tie.Need-add-requires Inv-loop μ-loop
 add-requires c κs = search needs
 
--- src/runs.rt:69:21
 tested-requires : tie.Need-tested-requires Inv-loop μ-loop
 tested-requires c κs = search needs
 
--- src/runs.rt:71:30
 enum-known-change-2 : tie.Need-enum-known-change-2 Inv-loop μ-loop
 enum-known-change-2 c = search needs
 
--- src/runs.rt:72:50
 cast-take-out : tie.Need-cast-take-out Inv-loop μ-loop
 cast-take-out c = search needs
 
--- src/runs.rt:72:25
 take-out-requires : tie.Need-take-out-requires Inv-loop μ-loop
 take-out-requires c κs = search needs
 
--- src/runs.rt:76:31
 enum-known-change-3 : tie.Need-enum-known-change-3 Inv-loop μ-loop
 enum-known-change-3 c = search needs
 
--- src/runs.rt:77:25
 store-requires : tie.Need-store-requires Inv-loop μ-loop
 store-requires c κs = search needs
 
--- src/runs.rt:82:9
 slice-write-answers : tie.Need-slice-write-answers Inv-loop μ-loop
 slice-write-answers c = search needs
 
--- src/runs.rt:83:9
 add-i : tie.Need-add-i Inv-loop μ-loop
 add-i c = omega (arith, c .before .before .before .before .before .before .before .before .loop-test .taken, c .before .before .before .before .before .before .before .before .before .before .before .before .before .before .before .before .fits .n)
 
--- src/runs.rt:38:5
 loop-less : tie.Need-loop-less Inv-loop μ-loop
 loop-less c = search needs
 
--- src/runs.rt:38:5
 loop-again : tie.Need-loop-again Inv-loop μ-loop
 loop-again c =
     let chose = c .before in
@@ -186,13 +145,13 @@ loop-again c =
     let x : Chosen = chose .choose .result in
     let ok = at-loop .loop .inv .ok in
     let below : k < 32 = rw (placed .place-of .ensures) (place-below v) in
-    let inside : k < length (h .table) = omega (arith, below, long-table h ok) in
+    let inside : k < length (h .table) = omega (arith, below, long-parts h ok .0) in
     let past : 256 ≤ asked .delivered-at .result → zeroMessage ≡ getD (h .desk .ether .places) (asked .delivered-at .result) zeroMessage =
-    λ g. sym (List·getD-eq-default (h .desk .ether .places) zeroMessage (omega (arith, g, long-ether h ok)))
+    λ g. sym (List·getD-eq-default (h .desk .ether .places) zeroMessage (omega (arith, g, long-parts h ok .1)))
     in
     let m : seen .if1 .m ≡ getD (h .desk .ether .places) (deliveredAt v) zeroMessage =
     ⊎-elim
-    (λ w. w .2 ∙ at-any (h .desk .ether .places) (asked .delivered-at .result) _ zeroMessage (omega (arith, w .0 .taken, long-ether h ok)))
+    (λ w. w .2 ∙ at-any (h .desk .ether .places) (asked .delivered-at .result) _ zeroMessage (omega (arith, w .0 .taken, long-parts h ok .1)))
     (λ w. w .2 ∙ (w .1 .ensures ∙ past (w .0 .left)))
     (seen .if1 .came)
     ∙ ap (λ (j : ℕ). getD (h .desk .ether .places) j zeroMessage) (asked .delivered-at .ensures)
@@ -203,13 +162,13 @@ loop-again c =
     let a : Answered = record { answer = c .if2 .answer; held = bench (c .if2 .table) (start .args .held .desk .purses) (c .if2 .ether) (c .if2 .archive) } in
     let done : a ≡ settledAt h k x =
     ⊎-elim
-    (λ w. rw (w .4, w .5, w .6, w .7) (when-nothing h k x (w .0 .taken) (w .3 .given .1)))
+    (λ w. rw (w .4, w .5, w .6, w .7) (when-nothing h k x (omega (arith, w .0 .taken)) (w .3 .given .1)))
     (⊎-elim
-    (λ w. rw (w .8, w .9, w .10, w .11) (when-sent h k x (w .0 .taken) _ (w .5 .result) _ (w .3 .given .1) (w .5 .ensures) (w .7 .ensures)))
+    (λ w. rw (w .8, w .9, w .10, w .11) (when-sent h k x (omega (arith, w .0 .taken)) _ (w .5 .result) _ (w .3 .given .1) (w .5 .ensures) (w .7 .ensures)))
     (⊎-elim
-    (λ w. rw (w .7, w .8, w .9, w .10) (when-lost h k x (w .0 .taken) _ (w .5 .result) (w .3 .given .1) (w .5 .ensures)))
+    (λ w. rw (w .7, w .8, w .9, w .10) (when-lost h k x (omega (arith, w .0 .taken)) _ (w .5 .result) (w .3 .given .1) (w .5 .ensures)))
     (⊎-elim
-    (λ w. rw (w .6, w .7, w .8, w .9) (when-stored h k x (w .0 .taken) _ (w .5 .result) (w .3 .given .1) (w .5 .ensures)))
+    (λ w. rw (w .6, w .7, w .8, w .9) (when-stored h k x (omega (arith, w .0 .taken)) _ (w .5 .result) (w .3 .given .1) (w .5 .ensures)))
     (λ w. rw (w .1, w .2, w .3, w .4) (when-refused h k x (w .0 .left))))))
     (c .if2 .came)
     in
@@ -219,11 +178,9 @@ loop-again c =
     in
     going-on _ h input _ (at-loop .loop .answers) _ i a (turn .loop-test .taken) (start .pre .2) said (at-loop .loop .inv)
 
--- src/runs.rt:28:1
 same-length : tie.Need-same-length Inv-loop μ-loop
 same-length c = search needs
 
--- src/runs.rt:28:1
 returns : tie.Need-returns Inv-loop μ-loop
 returns c = going-end _ _ _ _ _ _ _ (omega arith) (c .before .loop .inv)
 
