@@ -38,14 +38,15 @@ use Rattle.rules.specs.Steps.{Answer, withPurse, sending, carried, archiving, t
 use Rattle.rules.specs.Laid.{laid, seen, heldOk, heldStep}
 use Rattle.rules.proofs.Places.{seen-ok, laid-seen}
 use Rattle.rules.proofs.Facts.{Table, is-table}
-use Rattle.bench.specs.Acts.{placeIn, placeOf, refusedOn, startTests, deliverTests, purseTests, loseTests, sentOn, carriedOn, toldOn, lostOn, archivedOn, collectedOn, actOn, putBack, byRecord}
+use Rattle.bench.specs.declared.Change.the-variants as change
+use Rattle.bench.specs.Acts.{placeIn, placeOf, deliveredAt, startTests, deliverTests, purseTests, loseTests, toSend, toCarry, toTell, toArchive, toCollect, chosen, carriedOut, refusedOn, settled, actOn, putBack, byRecord}
 
 -- an answer on the lists, laid out
 abbrev shown : Answer → Answered
 shown a = record { answer = a .answer; held = laid (a .bench) }
 
 -- what is refused puts back the record that was read
-stays : (h : Held) (n i : ℕ) → record { answer = n; held = h } ≡ putBack h i (refusedOn n (getD (h .table) i zeroPurse) (h .desk))
+pub stays : (h : Held) (n i : ℕ) → record { answer = n; held = h } ≡ putBack h i (refusedOn n (getD (h .table) i zeroPurse) (h .desk))
 stays h n i =
     ap (λ (t : List Purse). record { answer = n; held = record { table = t; desk = h .desk } })
     (sym (set-getD (h .table) i zeroPurse))
@@ -66,8 +67,8 @@ module _ (b : Bench) where
       λ i. record { table = sym t i; desk = record { purses = n i; ether = desk .ether; archive = desk .archive } }
 
   -- one purse replaced and its message sent
-  sent-laid : (p : ℕ) (q : Purse) (m : Message) → p < length (b .purses) → shown (sending (withPurse b p q) m) ≡ putBack (laid b) p (sentOn q desk m)
-  unfolding sentOn added
+  sent-laid : (p : ℕ) (q : Purse) (m : Message) → p < length (b .purses) → shown (sending (withPurse b p q) m) ≡ putBack (laid b) p (carriedOut q desk (toSend m))
+  unfolding toSend carriedOut added
   sent-laid p q m h =
       ⊎-elim
       (λ (k : eqb (m .kind) 0 ≡ true). rw k (ap (λ (x : Held). record { answer = 0; held = x }) (put-laid p q h)))
@@ -104,24 +105,24 @@ module _ (b : Bench) (t : Table b) (own : Name) where
         ap (λ (i : ℕ). getD (laid b .table) i zeroPurse) (place-in b t own h)
         ∙ read-padded 32 zeroPurse (b .purses) (own .0) h
 
-    carried-laid : (a : CardAnswer) → shown (carried b (own .0) a) ≡ putBack (laid b) (placeIn own) (carriedOn here (laid b .desk) a)
-    unfolding carriedOn
+    carried-laid : (a : CardAnswer) → shown (carried b (own .0) a) ≡ putBack (laid b) (placeIn own) (settled here (laid b .desk) (toCarry a))
+    unfolding settled
     carried-laid a =
         ⊎-elim
         (λ (k : eqb (a .answer) 0 ≡ true).
         rw k
         (sent-laid b (own .0) (a .purse) (a .message) h
-        ∙ ap (λ (i : ℕ). putBack (laid b) i (sentOn (a .purse) (laid b .desk) (a .message))) (sym (place-in b t own h))))
+        ∙ ap (λ (i : ℕ). putBack (laid b) i (carriedOut (a .purse) (laid b .desk) (toSend (a .message)))) (sym (place-in b t own h))))
         (λ (k : eqb (a .answer) 0 ≡ false). rw k (stays (laid b) (a .answer) (placeIn own)))
         (which (eqb (a .answer) 0))
 
-    told-laid : (e : CardEvent) → shown (carried b (own .0) (told b (own .0) e)) ≡ putBack (laid b) (placeIn own) (carriedOn here (laid b .desk) (stepBy here own e))
+    told-laid : (e : CardEvent) → shown (carried b (own .0) (told b (own .0) e)) ≡ putBack (laid b) (placeIn own) (settled here (laid b .desk) (toCarry (stepBy here own e)))
     told-laid e =
         carried-laid (told b (own .0) e)
-        ∙ ap (λ (p : Purse). putBack (laid b) (placeIn own) (carriedOn here (laid b .desk) (stepBy p own e))) (sym found)
+        ∙ ap (λ (p : Purse). putBack (laid b) (placeIn own) (settled here (laid b .desk) (toCarry (stepBy p own e)))) (sym found)
 
-    archived-laid : (a : CardAnswer) → shown (archiving b (own .0) a) ≡ putBack (laid b) (placeIn own) (archivedOn here (laid b .desk) own a)
-    unfolding archivedOn stored
+    archived-laid : (a : CardAnswer) → shown (archiving b (own .0) a) ≡ putBack (laid b) (placeIn own) (settled here (laid b .desk) (toArchive (length (b .archive)) own a))
+    unfolding settled carriedOut stored
     archived-laid a =
         ⊎-elim
         (λ (k : eqb (a .answer) 0 ≡ true).
@@ -148,13 +149,13 @@ module _ (b : Bench) (t : Table b) (own : Name) where
         (λ (k : eqb (a .answer) 0 ≡ false). rw (k, k) (stays (laid b) (a .answer) (placeIn own)))
         (which (eqb (a .answer) 0))
 
-    collected-laid : shown (archiving b (own .0) (told b (own .0) card.Collect)) ≡ putBack (laid b) (placeIn own) (archivedOn here (laid b .desk) own (stepBy here own card.Collect))
+    collected-laid : shown (archiving b (own .0) (told b (own .0) card.Collect)) ≡ putBack (laid b) (placeIn own) (settled here (laid b .desk) (toArchive (length (b .archive)) own (stepBy here own card.Collect)))
     collected-laid =
         archived-laid (told b (own .0) card.Collect)
-        ∙ ap (λ (p : Purse). putBack (laid b) (placeIn own) (archivedOn here (laid b .desk) own (stepBy p own card.Collect))) (sym found)
+        ∙ ap (λ (p : Purse). putBack (laid b) (placeIn own) (settled here (laid b .desk) (toArchive (length (b .archive)) own (stepBy p own card.Collect)))) (sym found)
 
-  starts : (other : Name) (e : CardEvent) → shown (starting b (own .0) (other .0) e) ≡ putBack (laid b) (placeIn own) (toldOn (first (startTests (laid b .desk) own other)) here (laid b .desk) own e)
-  unfolding toldOn
+  starts : (other : Name) (e : CardEvent) → shown (starting b (own .0) (other .0) e) ≡ putBack (laid b) (placeIn own) (settled here (laid b .desk) (toTell (first (startTests (length (b .purses)) own other)) here own e))
+  unfolding settled toTell
   starts other e =
       ⊎-elim
       (λ (w : leb (length (b .purses)) (own .0) ≡ true). rw w (stays (laid b) 4 (placeIn own)))
@@ -166,8 +167,8 @@ module _ (b : Bench) (t : Table b) (own : Name) where
       (which (leb (length (b .purses)) (other .0)))))
       (which (leb (length (b .purses)) (own .0)))
 
-  delivers : (i : ℕ) → shown (delivering b (own .0) i) ≡ putBack (laid b) (placeIn own) (toldOn (first (deliverTests (laid b .desk) own i)) here (laid b .desk) own (card.Deliver (getD (laid b .desk .ether .places) i zeroMessage)))
-  unfolding toldOn
+  delivers : (i : ℕ) → shown (delivering b (own .0) i) ≡ putBack (laid b) (placeIn own) (settled here (laid b .desk) (toTell (first (deliverTests (length (b .purses)) (length (b .messages)) own i)) here own (card.Deliver (getD (laid b .desk .ether .places) i zeroMessage))))
+  unfolding settled toTell
   delivers i =
       ⊎-elim
       (λ (w : leb (length (b .purses)) (own .0) ≡ true). rw w (stays (laid b) 4 (placeIn own)))
@@ -181,24 +182,24 @@ module _ (b : Bench) (t : Table b) (own : Name) where
       (which (leb (length (b .messages)) i))))
       (which (leb (length (b .purses)) (own .0)))
 
-  aborts : shown (aborting b (own .0)) ≡ putBack (laid b) (placeIn own) (toldOn (first (purseTests (laid b .desk) own)) here (laid b .desk) own card.Abort)
-  unfolding toldOn
+  aborts : shown (aborting b (own .0)) ≡ putBack (laid b) (placeIn own) (settled here (laid b .desk) (toTell (first (purseTests (length (b .purses)) own)) here own card.Abort))
+  unfolding settled toTell
   aborts =
       ⊎-elim
       (λ (w : leb (length (b .purses)) (own .0) ≡ true). rw w (stays (laid b) 4 (placeIn own)))
       (λ (w : leb (length (b .purses)) (own .0) ≡ false). rw w (told-laid (leb-false _ _ w) card.Abort))
       (which (leb (length (b .purses)) (own .0)))
 
-  collects : shown (collecting b (own .0)) ≡ putBack (laid b) (placeIn own) (collectedOn (first (purseTests (laid b .desk) own)) here (laid b .desk) own)
-  unfolding collectedOn
+  collects : shown (collecting b (own .0)) ≡ putBack (laid b) (placeIn own) (settled here (laid b .desk) (toCollect (first (purseTests (length (b .purses)) own)) here (length (b .archive)) own))
+  unfolding settled toCollect
   collects =
       ⊎-elim
       (λ (w : leb (length (b .purses)) (own .0) ≡ true). rw w (stays (laid b) 4 (placeIn own)))
       (λ (w : leb (length (b .purses)) (own .0) ≡ false). rw w (collected-laid (leb-false _ _ w)))
       (which (leb (length (b .purses)) (own .0)))
 
-loses : (b : Bench) (t : Table b) (i : ℕ) → shown (losing b i) ≡ putBack (laid b) 0 (lostOn (first (loseTests (laid b .desk) i)) (getD (laid b .table) 0 zeroPurse) (laid b .desk) i)
-unfolding lostOn takenOut
+loses : (b : Bench) (t : Table b) (i : ℕ) → shown (losing b i) ≡ putBack (laid b) 0 (settled (getD (laid b .table) 0 zeroPurse) (laid b .desk) (record { answer = first (loseTests (length (b .messages)) i); purse = getD (laid b .table) 0 zeroPurse; change = change.Lose i }))
+unfolding settled carriedOut takenOut
 loses b t i =
     ⊎-elim
     (λ (w : leb (length (b .messages)) i ≡ true). rw w (stays (laid b) 5 0))
@@ -224,7 +225,7 @@ loses b t i =
     (which (leb (length (b .messages)) i))
 
 acts : (b : Bench) (t : Table b) (e : Event) → shown (acting b e) ≡ byRecord (laid b) e
-unfolding acting byRecord actOn placeOf
+unfolding acting byRecord actOn settled chosen deliveredAt placeOf
 acts b t Malformed = stays (laid b) 3 0
 acts b t (StartFrom own other s a) = starts b t own other (card.StartFrom other s a)
 acts b t (StartTo own other s a) = starts b t own other (card.StartTo other s a)

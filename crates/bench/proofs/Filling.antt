@@ -16,7 +16,7 @@ use Rattle.desk.specs.declared.Held.{Held}
 use Rattle.desk.specs.declared.Answered.{Answered}
 use Rattle.rules.specs.Events.{decoded}
 use Rattle.rules.specs.Laid.{heldOk, heldStep, heldRun, heldAnswers}
-use Rattle.rules.proofs.Carried.{held-kept, held-refused-same}
+use Rattle.rules.proofs.Carried.{held-kept}
 use Rattle.bench.specs.Acts.{byRecord}
 use Rattle.bench.specs.Runs.{smaller, pieces}
 use Rattle.bench.proofs.ByRecord.{step-by-record}
@@ -90,14 +90,6 @@ going-on held h input before now n i a l m e g =
       run = g .run ∙ r;
       said = fill-one _ _ before now i (a .answer) (omega arith) f;
     }
-
--- a refusal has changed nothing: the run goes on where it stood
-pub going-past : (held h : Held) (input before now : List ℕ) (n i : ℕ) (a : Answered) → i < n → n ≤ length before → a ≡ byRecord h (decoded (take 12 (drop (12 * i) input))) → 2 ≤ a .answer → Going held h input before now n i → Going held h input before (set now i (a .answer)) n (i + 1)
-going-past held h input before now n i a l m e k g =
-    let s : heldStep h (take 12 (drop (12 * i) input)) ≡ a = step-by-record h _ (g .ok) ∙ sym e in
-    let same : heldStep h (take 12 (drop (12 * i) input)) .held ≡ h = held-refused-same h _ (rw s k) in
-    let stays : a .held ≡ h = rw s at same in
-    rw stays at (going-on held h input before now n i a l m e g)
 
 pub going-end : (held h : Held) (input before now : List ℕ) (n i : ℕ) → n ≤ i → Going held h input before now n i → (h ≡ heldRun held (pieces n input)) × (now ≡ heldAnswers held (pieces n input) ++ drop n before)
 going-end held h input before now n i l g =

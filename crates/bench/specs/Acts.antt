@@ -1,4 +1,5 @@
--- What an event does, at a table that is well formed: it touches the desk and the one record that it names. The tests stand in document
+-- What an event does, at a table that is well formed: it touches the desk and the one record that it names. First it is chosen what is to
+-- be done (`chosen`), from the record and a few things that are seen of the desk; then that is done (`settled`). The tests stand in document
 -- 01's order for each kind; those that read one purse alone are the card's, behind them. That this is the bench's step is `step-by-record`.
 use Prim.Native.Nat.{ℕ}
 use mathlib.Core.Bool.{Bool, cond}
@@ -23,6 +24,10 @@ use Rattle.desk.specs.declared.Answered.{Answered}
 use Rattle.desk.specs.Desk.{places, added, takenOut, stored}
 use Rattle.rules.specs.declared.Event.{Event}
 use Rattle.rules.specs.declared.Event.the-variants.{Malformed, StartFrom, StartTo, Deliver, Abort, Lose, Collect}
+use Rattle.bench.specs.declared.Seen.{Seen}
+use Rattle.bench.specs.declared.Change.{Change}
+use Rattle.bench.specs.declared.Change.the-variants as change
+use Rattle.bench.specs.declared.Chosen.{Chosen}
 use Rattle.bench.specs.declared.Acted.{Acted}
 
 -- the place of a name in the table of 32; 0 for a name above 31
@@ -39,9 +44,88 @@ placeOf (Abort own) = placeIn own
 placeOf (Lose i) = 0
 placeOf (Collect own) = placeIn own
 
--- "Answers from 2 up change nothing anywhere"
-abbrev pub refusedOn : ℕ → Purse → Desk → Acted
-refusedOn n p d = record { answer = n; purse = p; desk = d }
+-- the place of the message that an event delivers; past the last place where it delivers none
+unfoldable pub deliveredAt : Event → ℕ
+deliveredAt Malformed = places
+deliveredAt (StartFrom own other s a) = places
+deliveredAt (StartTo own other s a) = places
+deliveredAt (Deliver own i) = i
+deliveredAt (Abort own) = places
+deliveredAt (Lose i) = places
+deliveredAt (Collect own) = places
+
+-- what an event's tests read of the desk
+abbrev pub seenAt : Desk → ℕ → Seen
+seenAt d i =
+    record {
+      purses = d .purses;
+      messages = d .ether .count;
+      entries = d .archive .count;
+      message = getD (d .ether .places) i zeroMessage;
+    }
+
+-- 4: "no such purse"
+abbrev pub noPurse : ℕ → Name → Bool
+noPurse purses n = leb purses (n .0)
+
+-- 5: "no message at that place"
+abbrev pub noMessage : ℕ → ℕ → Bool
+noMessage messages i = leb messages i
+
+-- "Starts: 2, 3, 4, 6, ..": 4, and 6 for a counterparty not in the table
+abbrev pub startTests : ℕ → Name → Name → List Test
+startTests purses own other = (noPurse purses own ⇒ 4) ∷ (noPurse purses other ⇒ 6) ∷ []
+
+-- "Deliver: 2, 3, 4, 5, 13"
+abbrev pub deliverTests : ℕ → ℕ → Name → ℕ → List Test
+deliverTests purses messages own i = (noPurse purses own ⇒ 4) ∷ (noMessage messages i ⇒ 5) ∷ []
+
+-- "Abort: 2, 3, 4"; "Collect: 2, 3, 4, 14, 15"
+abbrev pub purseTests : ℕ → Name → List Test
+purseTests purses own = (noPurse purses own ⇒ 4) ∷ []
+
+-- "Lose: 2, 3, 5"
+abbrev pub loseTests : ℕ → ℕ → List Test
+loseTests messages i = (noMessage messages i ⇒ 5) ∷ []
+
+-- refused, with that number
+abbrev pub refusedAs : ℕ → Purse → Chosen
+refusedAs n p = record { answer = n; purse = p; change = change.Nothing }
+
+-- the card's message is to be sent; kind 0 is no message: nothing is sent
+unfoldable pub toSend : Message → Change
+toSend m = cond (eqb (m .kind) 0) change.Nothing (change.Send m)
+
+-- what the card answered
+abbrev pub toCarry : CardAnswer → Chosen
+toCarry a = record { answer = a .answer; purse = a .purse; change = toSend (a .message) }
+
+-- the card is told e, where no test before found a number
+unfoldable pub toTell : ℕ → Purse → Name → CardEvent → Chosen
+toTell n p own e = cond (eqb n 0) (toCarry (stepBy p own e)) (refusedAs n p)
+
+-- the entry that the card gave out "is appended to the archive"; 15 where it is full, after the card's 14
+abbrev pub toArchive : ℕ → Name → CardAnswer → Chosen
+toArchive entries own a =
+    record {
+      answer = after (a .answer) (leb places entries) 15;
+      purse = a .purse;
+      change = change.Store (record { by = own; details = a .entry });
+    }
+
+unfoldable pub toCollect : ℕ → Purse → ℕ → Name → Chosen
+toCollect n p entries own = cond (eqb n 0) (toArchive entries own (stepBy p own card.Collect)) (refusedAs n p)
+
+-- what an event chooses at its record p and what is seen of the desk
+unfoldable pub chosen : Purse → Seen → Event → Chosen
+chosen p s Malformed = refusedAs 3 p
+chosen p s (StartFrom own other q a) = toTell (first (startTests (s .purses) own other)) p own (card.StartFrom other q a)
+chosen p s (StartTo own other q a) = toTell (first (startTests (s .purses) own other)) p own (card.StartTo other q a)
+chosen p s (Deliver own i) =
+    toTell (first (deliverTests (s .purses) (s .messages) own i)) p own (card.Deliver (s .message))
+chosen p s (Abort own) = toTell (first (purseTests (s .purses) own)) p own card.Abort
+chosen p s (Lose i) = record { answer = first (loseTests (s .messages) i); purse = p; change = change.Lose i }
+chosen p s (Collect own) = toCollect (first (purseTests (s .purses) own)) p (s .entries) own
 
 abbrev pub withEther : Desk → Ether → Desk
 withEther d e = record { purses = d .purses; ether = e; archive = d .archive }
@@ -49,78 +133,30 @@ withEther d e = record { purses = d .purses; ether = e; archive = d .archive }
 abbrev pub withArchive : Desk → Archive → Desk
 withArchive d a = record { purses = d .purses; ether = d .ether; archive = a }
 
--- 4: "no such purse"
-abbrev pub noPurse : Desk → Name → Bool
-noPurse d n = leb (d .purses) (n .0)
-
--- 5: "no message at that place"
-abbrev pub noMessage : Desk → ℕ → Bool
-noMessage d i = leb (d .ether .count) i
-
--- "Starts: 2, 3, 4, 6, ..": 4, and 6 for a counterparty not in the table
-abbrev pub startTests : Desk → Name → Name → List Test
-startTests d own other = (noPurse d own ⇒ 4) ∷ (noPurse d other ⇒ 6) ∷ []
-
--- "Deliver: 2, 3, 4, 5, 13"
-abbrev pub deliverTests : Desk → Name → ℕ → List Test
-deliverTests d own i = (noPurse d own ⇒ 4) ∷ (noMessage d i ⇒ 5) ∷ []
-
--- "Abort: 2, 3, 4"; "Collect: 2, 3, 4, 14, 15"
-abbrev pub purseTests : Desk → Name → List Test
-purseTests d own = (noPurse d own ⇒ 4) ∷ []
-
--- "Lose: 2, 3, 5"
-abbrev pub loseTests : Desk → ℕ → List Test
-loseTests d i = (noMessage d i ⇒ 5) ∷ []
-
--- "Sending appends at the end of the messages"; where it is lost "the answer is 1". Kind 0 is no message: nothing is sent.
-unfoldable pub sentOn : Purse → Desk → Message → Acted
-sentOn p d m =
-    cond (eqb (m .kind) 0) (record { answer = 0; purse = p; desk = d })
-    (record {
+-- a change at the desk, q being the record's next state. "Sending appends at the end of the messages"; where it is lost "the answer is 1".
+-- "Lose: that message goes".
+unfoldable pub carriedOut : Purse → Desk → Change → Acted
+carriedOut q d change.Nothing = record { answer = 0; purse = q; desk = d }
+carriedOut q d (change.Send m) =
+    record {
       answer = cond (added (d .ether) m .lost) 1 0;
-      purse = p;
+      purse = q;
       desk = withEther d (added (d .ether) m .ether);
-    })
+    }
+carriedOut q d (change.Lose i) = record { answer = 0; purse = q; desk = withEther d (takenOut (d .ether) i .ether) }
+carriedOut q d (change.Store e) = record { answer = 0; purse = q; desk = withArchive d (stored (d .archive) e) }
 
--- what the card answered: its record is kept and its message sent, or it refused
-unfoldable pub carriedOn : Purse → Desk → CardAnswer → Acted
-carriedOn p d a = cond (eqb (a .answer) 0) (sentOn (a .purse) d (a .message)) (refusedOn (a .answer) p d)
+-- "Answers from 2 up change nothing anywhere"
+abbrev pub refusedOn : ℕ → Purse → Desk → Acted
+refusedOn n p d = record { answer = n; purse = p; desk = d }
 
--- the card is told e, where no test before found a number
-unfoldable pub toldOn : ℕ → Purse → Desk → Name → CardEvent → Acted
-toldOn n p d own e = cond (eqb n 0) (carriedOn p d (stepBy p own e)) (refusedOn n p d)
-
--- "that message goes", likewise
-unfoldable pub lostOn : ℕ → Purse → Desk → ℕ → Acted
-lostOn n p d i =
-    cond (eqb n 0) (record { answer = 0; purse = p; desk = withEther d (takenOut (d .ether) i .ether) })
-    (refusedOn n p d)
-
--- the entry that the card gave out "is appended to the archive"; 15 where it is full, after the card's 14
-unfoldable pub archivedOn : Purse → Desk → Name → CardAnswer → Acted
-archivedOn p d own a =
-    cond (eqb (after (a .answer) (leb places (d .archive .count)) 15) 0)
-    (record {
-      answer = 0;
-      purse = a .purse;
-      desk = withArchive d (stored (d .archive) (record { by = own; details = a .entry }));
-    })
-    (refusedOn (after (a .answer) (leb places (d .archive .count)) 15) p d)
-
-unfoldable pub collectedOn : ℕ → Purse → Desk → Name → Acted
-collectedOn n p d own = cond (eqb n 0) (archivedOn p d own (stepBy p own card.Collect)) (refusedOn n p d)
+-- what is chosen is done where its number is 0
+unfoldable pub settled : Purse → Desk → Chosen → Acted
+settled p d c = cond (eqb (c .answer) 0) (carriedOut (c .purse) d (c .change)) (refusedOn (c .answer) p d)
 
 -- the step of an event at its record p and the desk
 unfoldable pub actOn : Purse → Desk → Event → Acted
-actOn p d Malformed = refusedOn 3 p d
-actOn p d (StartFrom own other s a) = toldOn (first (startTests d own other)) p d own (card.StartFrom other s a)
-actOn p d (StartTo own other s a) = toldOn (first (startTests d own other)) p d own (card.StartTo other s a)
-actOn p d (Deliver own i) =
-    toldOn (first (deliverTests d own i)) p d own (card.Deliver (getD (d .ether .places) i zeroMessage))
-actOn p d (Abort own) = toldOn (first (purseTests d own)) p d own card.Abort
-actOn p d (Lose i) = lostOn (first (loseTests d i)) p d i
-actOn p d (Collect own) = collectedOn (first (purseTests d own)) p d own
+actOn p d e = settled p d (chosen p (seenAt d (deliveredAt e)) e)
 
 -- the record put back at its place of the table, the desk beside it
 abbrev pub putBack : Held → ℕ → Acted → Answered

@@ -1,6 +1,9 @@
-// What an event does at the record that it names and the desk, where the table is well formed. The tests that read the desk stand here, in
-// document 01's order; the others are the card's.
+// What an event does at the record that it names and the desk, where the table is well formed. First it is chosen: the tests that read
+// the desk stand here, in document 01's order; the others are the card's. Then what is chosen is done.
 use crate::Acted;
+use crate::Change;
+use crate::Chosen;
+use crate::Seen;
 use desk::Desk;
 use desk::Entry;
 use desk::Ether;
@@ -12,11 +15,10 @@ use purse::Purse;
 use purse::tested;
 use rules::Event;
 ghost use mathlib.Core.Path.{_≡_};
-ghost use Prim.Native.Nat.{_<_};
 ghost use lib.ListN.{getD};
 ghost use Rattle.purse.specs.Tests.{first};
 ghost use Rattle.purse.specs.Details.{zeroMessage};
-ghost use Rattle.bench.specs.Acts.{placeIn, placeOf, startTests, deliverTests, purseTests, loseTests, sentOn, carriedOn, toldOn, lostOn, archivedOn, collectedOn, actOn};
+ghost use Rattle.bench.specs.Acts.{placeIn, placeOf, deliveredAt, startTests, deliverTests, purseTests, loseTests, toSend, toTell, toArchive, toCollect, chosen, carriedOut, settled, actOn};
 
 // The place of a name in the table of 32; 0 for a name above 31.
 fn place_in(name: Name) -> usize
@@ -51,189 +53,142 @@ pub fn place_of(event: Event) -> usize
     }
 }
 
-fn start_number(desk: Desk, own: Name, other: Name) -> u8
-    ensures { λ r. ⌜ r ≡ first (startTests desk own other) ⌝ }
+// The place of the message that an event delivers; past the last place where it delivers none.
+pub fn delivered_at(event: Event) -> usize
+    ensures { λ r. ⌜ r ≡ deliveredAt event ⌝ }
 {
-    let n = tested(0, desk.purses <= own.0, 4); // the purse first
-    let n = tested(n, desk.purses <= other.0, 6); // then its counterparty
-    n
-}
-
-fn deliver_number(desk: Desk, own: Name, place: u32) -> u8
-    ensures { λ r. ⌜ r ≡ first (deliverTests desk own place) ⌝ }
-{
-    let n = tested(0, desk.purses <= own.0, 4);
-    let n = tested(n, stand(desk.ether) <= place, 5);
-    n
-}
-
-fn purse_number(desk: Desk, own: Name) -> u8
-    ensures { λ r. ⌜ r ≡ first (purseTests desk own) ⌝ }
-{
-    tested(0, desk.purses <= own.0, 4)
-}
-
-fn lose_number(desk: Desk, place: u32) -> u8
-    ensures { λ r. ⌜ r ≡ first (loseTests desk place) ⌝ }
-{
-    tested(0, stand(desk.ether) <= place, 5)
-}
-
-// How many messages stand.
-fn stand(ether: Ether) -> u32
-    ensures { λ r. ⌜ r ≡ ether .count ⌝ }
-{
-    ether.count as u32
-}
-
-// The message at a place; all zero past the last place.
-fn message_at(ether: Ether, place: u32) -> Message
-    ensures { λ r. ⌜ r ≡ getD (ether .places) place zeroMessage ⌝ }
-{
-    let at = place as usize;
-    if at < 256 {
-        ether.places[at]
-    } else {
-        Message::zero()
+    match event {
+        Event::Malformed => 256,
+        Event::StartFrom {
+            purse: _,
+            other: _,
+            seq: _,
+            amount: _,
+        } => 256,
+        Event::StartTo {
+            purse: _,
+            other: _,
+            seq: _,
+            amount: _,
+        } => 256,
+        Event::Deliver { purse: _, place } => place as usize,
+        Event::Abort { purse: _ } => 256,
+        Event::Lose { place: _ } => 256,
+        Event::Collect { purse: _ } => 256,
     }
 }
 
-// The message sent, where there is one: answer 1 where it is lost.
-fn send(purse: Purse, desk: Desk, m: Message) -> Acted
-    ensures { λ r. ⌜ r ≡ sentOn purse desk m ⌝ }
+fn start_number(purses: u8, own: Name, other: Name) -> u8
+    ensures { λ r. ⌜ r ≡ first (startTests purses own other) ⌝ }
+{
+    let n = tested(0, purses <= own.0, 4); // the purse first
+    let n = tested(n, purses <= other.0, 6); // then its counterparty
+    n
+}
+
+fn deliver_number(purses: u8, messages: u16, own: Name, place: u32) -> u8
+    ensures { λ r. ⌜ r ≡ first (deliverTests purses messages own place) ⌝ }
+{
+    let n = tested(0, purses <= own.0, 4);
+    let n = tested(n, wide(messages) <= place, 5);
+    n
+}
+
+fn purse_number(purses: u8, own: Name) -> u8
+    ensures { λ r. ⌜ r ≡ first (purseTests purses own) ⌝ }
+{
+    tested(0, purses <= own.0, 4)
+}
+
+fn lose_number(messages: u16, place: u32) -> u8
+    ensures { λ r. ⌜ r ≡ first (loseTests messages place) ⌝ }
+{
+    tested(0, wide(messages) <= place, 5)
+}
+
+fn wide(count: u16) -> u32
+    ensures { λ r. ⌜ r ≡ count ⌝ }
+{
+    count as u32
+}
+
+// The message to send; kind 0 is no message.
+fn sending(m: Message) -> Change
+    ensures { λ r. ⌜ r ≡ toSend m ⌝ }
 {
     if m.kind == 0 {
-        return Acted {
-            answer: 0,
-            purse: purse,
-            desk: desk,
-        };
-    }
-    let ether = desk.ether;
-    let changed = ether.add(m);
-    let next = changed.ether;
-    let answer = tested(0, changed.lost, 1);
-    let mut d = desk;
-    d.ether = next;
-    Acted {
-        answer: answer,
-        purse: purse,
-        desk: d,
-    }
-}
-
-// What the card answered: its record is kept and its message sent, or it refused.
-fn carry(p: Purse, desk: Desk, a: CardAnswer) -> Acted
-    ensures { λ r. ⌜ r ≡ carriedOn p desk a ⌝ }
-{
-    let n = a.answer;
-    if n == 0 {
-        let q = a.purse;
-        let m = a.message;
-        send(q, desk, m)
+        Change::Nothing
     } else {
-        Acted {
-            answer: n,
-            purse: p,
-            desk: desk,
-        }
+        Change::Send(m)
     }
 }
 
 // The card is told, where no test before found a number.
-fn tell(n: u8, p: Purse, desk: Desk, own: Name, told: CardEvent) -> Acted
-    ensures { λ r. ⌜ r ≡ toldOn n p desk own told ⌝ }
+fn tell(n: u8, p: Purse, own: Name, event: CardEvent) -> Chosen
+    ensures { λ r. ⌜ r ≡ toTell n p own event ⌝ }
 {
     if n == 0 {
-        let a = card::step(p, own, told);
-        carry(p, desk, a)
-    } else {
-        Acted {
-            answer: n,
-            purse: p,
-            desk: desk,
-        }
-    }
-}
-
-// The message at that place goes, likewise.
-fn lose(n: u8, p: Purse, desk: Desk, place: u32) -> Acted
-    ensures { λ r. ⌜ r ≡ lostOn n p desk place ⌝ }
-{
-    if n == 0 {
-        let ether = desk.ether;
-        let changed = ether.take_out(place as usize);
-        let next = changed.ether;
-        let mut d = desk;
-        d.ether = next;
-        Acted {
-            answer: 0,
-            purse: p,
-            desk: d,
+        let a = card::step(p, own, event);
+        let q = a.purse;
+        let m = a.message;
+        let change = sending(m);
+        Chosen {
+            answer: a.answer,
+            purse: q,
+            change: change,
         }
     } else {
-        Acted {
+        Chosen {
             answer: n,
             purse: p,
-            desk: desk,
+            change: Change::Nothing,
         }
     }
 }
 
 // The entry that the card gave out goes to the archive; 15 where that is full, after the card's 14.
-fn archive(p: Purse, desk: Desk, own: Name, a: CardAnswer) -> Acted
-    ensures { λ r. ⌜ r ≡ archivedOn p desk own a ⌝ }
+fn archive(entries: u16, own: Name, a: CardAnswer) -> Chosen
+    ensures { λ r. ⌜ r ≡ toArchive entries own a ⌝ }
 {
-    let archive = desk.archive;
-    let n = tested(a.answer, 256 <= archive.count, 15);
-    if n == 0 {
-        let q = a.purse;
-        let entry = a.entry;
-        let next = archive.store(Entry {
-            by: own,
-            details: entry,
-        });
-        let mut d = desk;
-        d.archive = next;
-        Acted {
-            answer: 0,
-            purse: q,
-            desk: d,
-        }
-    } else {
-        Acted {
-            answer: n,
-            purse: p,
-            desk: desk,
-        }
+    let n = tested(a.answer, 256 <= entries, 15);
+    let q = a.purse;
+    let d = a.entry;
+    let entry = Entry {
+        by: own,
+        details: d,
+    };
+    Chosen {
+        answer: n,
+        purse: q,
+        change: Change::Store(entry),
     }
 }
 
-// The purse's oldest log entry goes to the archive, likewise.
-fn collect(n: u8, p: Purse, desk: Desk, own: Name) -> Acted
-    ensures { λ r. ⌜ r ≡ collectedOn n p desk own ⌝ }
+// The purse's oldest log entry goes to the archive, where no test before found a number.
+fn collect(n: u8, p: Purse, entries: u16, own: Name) -> Chosen
+    ensures { λ r. ⌜ r ≡ toCollect n p entries own ⌝ }
 {
     if n == 0 {
         let a = card::step(p, own, CardEvent::Collect);
-        archive(p, desk, own, a)
+        archive(entries, own, a)
     } else {
-        Acted {
+        Chosen {
             answer: n,
             purse: p,
-            desk: desk,
+            change: Change::Nothing,
         }
     }
 }
 
-// The step of an event at its record p and the desk. A refusal gives both back.
-pub fn act(p: Purse, desk: Desk, event: Event) -> Acted
-    ensures { λ r. ⌜ r ≡ actOn p desk event ⌝ }
+// What an event chooses at its record p and what is seen of the desk.
+pub fn choose(p: Purse, seen: Seen, event: Event) -> Chosen
+    ensures { λ r. ⌜ r ≡ chosen p seen event ⌝ }
 {
     match event {
-        Event::Malformed => Acted {
+        Event::Malformed => Chosen {
             answer: 3,
             purse: p,
-            desk: desk,
+            change: Change::Nothing,
         },
         Event::StartFrom {
             purse,
@@ -241,14 +196,8 @@ pub fn act(p: Purse, desk: Desk, event: Event) -> Acted
             seq,
             amount,
         } => {
-            let n = start_number(desk, purse, other);
-            tell(
-                n,
-                p,
-                desk,
-                purse,
-                CardEvent::StartFrom { other, seq, amount },
-            )
+            let n = start_number(seen.purses, purse, other);
+            tell(n, p, purse, CardEvent::StartFrom { other, seq, amount })
         }
         Event::StartTo {
             purse,
@@ -256,25 +205,119 @@ pub fn act(p: Purse, desk: Desk, event: Event) -> Acted
             seq,
             amount,
         } => {
-            let n = start_number(desk, purse, other);
-            tell(n, p, desk, purse, CardEvent::StartTo { other, seq, amount })
+            let n = start_number(seen.purses, purse, other);
+            tell(n, p, purse, CardEvent::StartTo { other, seq, amount })
         }
         Event::Deliver { purse, place } => {
-            let n = deliver_number(desk, purse, place);
-            let m = message_at(desk.ether, place);
-            tell(n, p, desk, purse, CardEvent::Deliver(m))
+            let n = deliver_number(seen.purses, seen.messages, purse, place);
+            let m = seen.message;
+            tell(n, p, purse, CardEvent::Deliver(m))
         }
         Event::Abort { purse } => {
-            let n = purse_number(desk, purse);
-            tell(n, p, desk, purse, CardEvent::Abort)
+            let n = purse_number(seen.purses, purse);
+            tell(n, p, purse, CardEvent::Abort)
         }
-        Event::Lose { place } => {
-            let n = lose_number(desk, place);
-            lose(n, p, desk, place)
-        }
+        Event::Lose { place } => Chosen {
+            answer: lose_number(seen.messages, place),
+            purse: p,
+            change: Change::Lose(place),
+        },
         Event::Collect { purse } => {
-            let n = purse_number(desk, purse);
-            collect(n, p, desk, purse)
+            let n = purse_number(seen.purses, purse);
+            collect(n, p, seen.entries, purse)
         }
     }
+}
+
+// The message at a place; all zero past the last place.
+fn message_at(ether: Ether, at: usize) -> Message
+    ensures { λ r. ⌜ r ≡ getD (ether .places) at zeroMessage ⌝ }
+{
+    if at < 256 {
+        ether.places[at]
+    } else {
+        Message::zero()
+    }
+}
+
+// A change is made at the desk: answer 1 where the message sent is lost.
+fn carry_out(q: Purse, desk: Desk, change: Change) -> Acted
+    ensures { λ r. ⌜ r ≡ carriedOut q desk change ⌝ }
+{
+    match change {
+        Change::Nothing => Acted {
+            answer: 0,
+            purse: q,
+            desk: desk,
+        },
+        Change::Send(m) => {
+            let ether = desk.ether;
+            let changed = ether.add(m);
+            let next = changed.ether;
+            let answer = tested(0, changed.lost, 1);
+            let mut d = desk;
+            d.ether = next;
+            Acted {
+                answer: answer,
+                purse: q,
+                desk: d,
+            }
+        }
+        Change::Lose(place) => {
+            let ether = desk.ether;
+            let changed = ether.take_out(place as usize);
+            let next = changed.ether;
+            let mut d = desk;
+            d.ether = next;
+            Acted {
+                answer: 0,
+                purse: q,
+                desk: d,
+            }
+        }
+        Change::Store(entry) => {
+            let archive = desk.archive;
+            let next = archive.store(entry);
+            let mut d = desk;
+            d.archive = next;
+            Acted {
+                answer: 0,
+                purse: q,
+                desk: d,
+            }
+        }
+    }
+}
+
+// What is chosen is done where its number is 0; a refusal gives the record p and the desk back.
+fn settle(p: Purse, desk: Desk, c: Chosen) -> Acted
+    ensures { λ r. ⌜ r ≡ settled p desk c ⌝ }
+{
+    let n = c.answer;
+    if n == 0 {
+        let q = c.purse;
+        let change = c.change;
+        carry_out(q, desk, change)
+    } else {
+        Acted {
+            answer: n,
+            purse: p,
+            desk: desk,
+        }
+    }
+}
+
+// The step of an event at its record p and the desk.
+pub fn act(p: Purse, desk: Desk, event: Event) -> Acted
+    ensures { λ r. ⌜ r ≡ actOn p desk event ⌝ }
+{
+    let m = message_at(desk.ether, delivered_at(event));
+    let seen = Seen {
+        purses: desk.purses,
+        messages: desk.ether.count,
+        entries: desk.archive.count,
+        message: m,
+    };
+    let c = choose(p, seen, event);
+    settle(p, desk, c)
 }

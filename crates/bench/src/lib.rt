@@ -1,7 +1,9 @@
 // The bench: takes hostile events one by one on a table of purses, the messages between them and the issuer's archive. All is by value: what
 // the bench holds goes in, and comes back.
 use desk::Desk;
+use desk::Entry;
 use desk::Held;
+use purse::Message;
 use purse::Purse;
 
 mod acts; // acts.rt: what an event does at one record and the desk
@@ -18,6 +20,29 @@ pub use open::opening;
 pub use owed::claims;
 pub use runs::run;
 pub use step::event;
+
+// What an event's tests read of the desk: its counts, and the message that is delivered, or an all-zero one.
+pub struct Seen {
+    pub purses: u8,
+    pub messages: u16,
+    pub entries: u16,
+    pub message: Message,
+}
+
+// What an event changes at the desk: a message is sent, or the one at a place goes, or an entry is appended to the archive.
+pub enum Change {
+    Nothing,
+    Send(Message),
+    Lose(u32),
+    Store(Entry),
+}
+
+// What an event chooses: its number, and the record and the change to be made where the number is 0.
+pub struct Chosen {
+    pub answer: u8,
+    pub purse: Purse,
+    pub change: Change,
+}
 
 // What an event does at the record that it names: the answer, and the record and the desk as they then stand.
 #[repr(C)]

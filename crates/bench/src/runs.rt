@@ -1,7 +1,15 @@
 // Many events: the rules are tested once, since every step keeps them.
+use crate::Change;
 use crate::Ran;
-use crate::step::by_record;
+use crate::Seen;
+use crate::acts::choose;
+use crate::acts::delivered_at;
+use crate::acts::place_of;
+use crate::events::decode;
+use desk::Desk;
 use desk::Held;
+use purse::Message;
+use purse::tested;
 ghost use mathlib.Core.Path.{_≡_};
 ghost use mathlib.Core.Bool.{true};
 ghost use mathlib.Core.List.{_++_};
@@ -21,22 +29,68 @@ fn each(held: Held, input: &[u8], answers: &mut [u8], n: usize) -> Held
     requires { ⌜ (heldOk held ≡ true) × (12 * n ≤ length (now input)) × (n ≤ length (now answers)) ⌝ }
     ensures { λ r. ⌜ (r ≡ heldRun held (pieces n (now (input .entry)))) × (now (answers .exit) ≡ heldAnswers held (pieces n (now (input .entry))) ++ drop n (now (answers .entry))) ⌝ }
 {
-    let mut h = held;
+    let mut table = held.table;
+    let desk = held.desk;
+    let purses = desk.purses;
+    let mut ether = desk.ether;
+    let mut archive = desk.archive;
     let mut i: usize = 0;
     while i < n {
         let at = 12 * i;
         let end = at + 12;
-        let a = by_record(h, &input[at..end]);
-        let answer = a.answer;
-        answers[i] = answer;
-        // from 2 up nothing has changed
-        if answer < 2 {
-            let next = a.held;
-            h = next;
+        let e = decode(&input[at..end]);
+        let k = place_of(e);
+        let p = table[k];
+        let j = delivered_at(e);
+        let m = if j < 256 {
+            ether.places[j]
+        } else {
+            Message::zero()
+        };
+        let seen = Seen {
+            purses: purses,
+            messages: ether.count,
+            entries: archive.count,
+            message: m,
+        };
+        let c = choose(p, seen, e);
+        let mut answer = c.answer;
+        // from 2 up nothing changes
+        if answer == 0 {
+            let q = c.purse;
+            table[k] = q;
+            let change = c.change;
+            match change {
+                Change::Nothing => {}
+                Change::Send(m) => {
+                    let changed = ether.add(m);
+                    let next = changed.ether;
+                    ether = next;
+                    answer = tested(0, changed.lost, 1);
+                }
+                Change::Lose(place) => {
+                    let changed = ether.take_out(place as usize);
+                    let next = changed.ether;
+                    ether = next;
+                }
+                Change::Store(entry) => {
+                    let next = archive.store(entry);
+                    archive = next;
+                }
+            }
         }
+        answers[i] = answer;
         i += 1;
     }
-    h
+    let desk = Desk {
+        purses: purses,
+        ether: ether,
+        archive: archive,
+    };
+    Held {
+        table: table,
+        desk: desk,
+    }
 }
 
 // Answer 2 to each of the first n events.

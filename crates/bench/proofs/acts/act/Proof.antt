@@ -1,127 +1,27 @@
--- `bench::acts::act` meets its contract: each arm hands the numbers of its tests to the function of its kind, which is the definition's
--- line for that kind.
+-- `bench::acts::act` meets its contract: what is seen of the desk, what is chosen of that, and that done, as in the definition.
 -- Assumes nothing.
 use Rattle.bench.specs.Acts.{actOn}
 use borrow.Author.Needs.{needs}
 use Rattle.bench.proofs.acts.act.Statement.{statement}
 use Rattle.bench.proofs.acts.act.Tie as tie
 
-enum-told : tie.Need-enum-told
-enum-told c = search needs
-
-enum-known-event : tie.Need-enum-known-event
-enum-known-event c = search needs
-
-start-number-requires : tie.Need-start-number-requires
-start-number-requires c κs = search needs
-
-tell-requires : tie.Need-tell-requires
-tell-requires c κs = search needs
-
-enum-known-event-2 : tie.Need-enum-known-event-2
-enum-known-event-2 c = search needs
-
-start-number-requires-2 : tie.Need-start-number-requires-2
-start-number-requires-2 c κs = search needs
-
-tell-requires-2 : tie.Need-tell-requires-2
-tell-requires-2 c κs = search needs
-
-enum-known-event-3 : tie.Need-enum-known-event-3
-enum-known-event-3 c = search needs
-
-deliver-number-requires : tie.Need-deliver-number-requires
-deliver-number-requires c κs = search needs
+delivered-at-requires : tie.Need-delivered-at-requires
+delivered-at-requires c κs = search needs
 
 message-at-requires : tie.Need-message-at-requires
 message-at-requires c κs = search needs
 
-tell-requires-3 : tie.Need-tell-requires-3
-tell-requires-3 c κs = search needs
+choose-requires : tie.Need-choose-requires
+choose-requires c κs = search needs
 
-enum-known-event-4 : tie.Need-enum-known-event-4
-enum-known-event-4 c = search needs
-
-purse-number-requires : tie.Need-purse-number-requires
-purse-number-requires c κs = search needs
-
-tell-requires-4 : tie.Need-tell-requires-4
-tell-requires-4 c κs = search needs
-
-enum-known-event-5 : tie.Need-enum-known-event-5
-enum-known-event-5 c = search needs
-
-lose-number-requires : tie.Need-lose-number-requires
-lose-number-requires c κs = search needs
-
-lose-requires : tie.Need-lose-requires
-lose-requires c κs = search needs
-
-enum-known-event-6 : tie.Need-enum-known-event-6
-enum-known-event-6 c = search needs
-
-purse-number-requires-2 : tie.Need-purse-number-requires-2
-purse-number-requires-2 c κs = search needs
-
-collect-requires : tie.Need-collect-requires
-collect-requires c κs = search needs
+settle-requires : tie.Need-settle-requires
+settle-requires c κs = search needs
 
 returns : tie.Need-returns
 unfolding actOn
-returns c = rw (c .enum-told .given .1)
-
-returns-2 : tie.Need-returns-2
-unfolding actOn
-returns-2 c = rw (c .tell .ensures, c .before .start-number .ensures, c .before .before .before .event .given .1)
-
-returns-3 : tie.Need-returns-3
-unfolding actOn
-returns-3 c = rw (c .tell2 .ensures, c .before .start-number2 .ensures, c .before .before .before .event2 .given .1)
-
-returns-4 : tie.Need-returns-4
-unfolding actOn
-returns-4 c = rw (c .tell3 .ensures, c .before .message-at .ensures, c .before .before .deliver-number .ensures, c .before .before .before .before .event3 .given .1)
-
-returns-5 : tie.Need-returns-5
-unfolding actOn
-returns-5 c = rw (c .tell4 .ensures, c .before .purse-number .ensures, c .before .before .before .event4 .given .1)
-
-returns-6 : tie.Need-returns-6
-unfolding actOn
-returns-6 c = rw (c .lose .ensures, c .before .lose-number .ensures, c .before .before .before .event5 .given .1)
-
-returns-7 : tie.Need-returns-7
-unfolding actOn
-returns-7 c = rw (c .collect .ensures, c .before .purse-number2 .ensures, c .before .before .before .event6 .given .1)
+returns c = rw (c .settle .ensures, c .before .choose .ensures, c .before .before .message-at .ensures, c .before .before .before .delivered-at .ensures)
 
 pub act-spec : {M : Type 1} → statement M
 act-spec =
     tie.close
-    (tie.spec
-    enum-told
-    enum-known-event
-    start-number-requires
-    tell-requires
-    enum-known-event-2
-    start-number-requires-2
-    tell-requires-2
-    enum-known-event-3
-    deliver-number-requires
-    message-at-requires
-    tell-requires-3
-    enum-known-event-4
-    purse-number-requires
-    tell-requires-4
-    enum-known-event-5
-    lose-number-requires
-    lose-requires
-    enum-known-event-6
-    purse-number-requires-2
-    collect-requires
-    returns
-    returns-2
-    returns-3
-    returns-4
-    returns-5
-    returns-6
-    returns-7)
+    (tie.spec delivered-at-requires message-at-requires choose-requires settle-requires returns)

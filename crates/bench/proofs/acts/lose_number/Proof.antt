@@ -7,14 +7,14 @@ use borrow.Author.Needs.{needs}
 use Rattle.bench.proofs.acts.lose_number.Statement.{statement}
 use Rattle.bench.proofs.acts.lose_number.Tie as tie
 
-stand-requires : tie.Need-stand-requires
-stand-requires c κs = search needs
+wide-requires : tie.Need-wide-requires
+wide-requires c κs = search needs
 
 tested-requires : tie.Need-tested-requires
 tested-requires c κs = search needs
 
 returns : tie.Need-returns
-returns c = let now = c .before .before .args in rw (c .tested .ensures, c .before .stand .ensures) (walks (loseTests (now .desk) (now .place)) refl)
+returns c = let now = c .before .before .args in rw (c .tested .ensures, c .before .wide .ensures) (walks (loseTests (now .messages) (now .place)) refl)
 
 pub lose-number-spec : {M : Type 1} → statement M
-lose-number-spec = tie.close (tie.spec stand-requires tested-requires returns)
+lose-number-spec = tie.close (tie.spec wide-requires tested-requires returns)

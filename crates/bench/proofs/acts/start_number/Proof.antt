@@ -14,7 +14,7 @@ tested-requires-2 : tie.Need-tested-requires-2
 tested-requires-2 c κs = search needs
 
 returns : tie.Need-returns
-returns c = let now = c .before .before .before .before .before .before .args in rw (c .tested2 .ensures, c .before .before .before .tested .ensures) (walks (startTests (now .desk) (now .own) (now .other)) refl)
+returns c = let now = c .before .before .before .before .args in rw (c .tested2 .ensures, c .before .before .tested .ensures) (walks (startTests (now .purses) (now .own) (now .other)) refl)
 
 pub start-number-spec : {M : Type 1} → statement M
 start-number-spec = tie.close (tie.spec tested-requires tested-requires-2 returns)

@@ -1,11 +1,21 @@
--- `bench::runs::each` meets its contract: the loop's invariant is `Going`: the run so far, and the pieces that are left.
+-- `bench::runs::each` meets its contract: the loop's invariant is `Going`, of what the bench holds put together of its parts: the run so far,
+-- and the pieces that are left. A turn is one event at the parts (the laws of Parts), by the five ways on which it can go.
 -- Assumes nothing.
-use Rattle.bench.proofs.Filling.{Going, going-start, going-on, going-past, going-end}
-use Rattle.bench.specs.Acts.{byRecord}
+use Rattle.bench.proofs.Filling.{Going, going-start, going-on, going-end}
+use Rattle.bench.proofs.ByRecord.{place-below}
+use Rattle.bench.proofs.Parts.{bench, long-parts, settledAt, by-chosen, when-refused, when-nothing, when-sent, when-lost, when-stored}
+use Rattle.bench.specs.declared.Chosen.{Chosen}
+use Rattle.bench.specs.Acts.{deliveredAt, byRecord}
+use Rattle.table.proofs.Walks.{at-any}
+use Rattle.purse.specs.Details.{zeroMessage}
+use Rattle.purse.specs.Purse.{zeroPurse}
+use Rattle.desk.specs.declared.Answered.{Answered}
+use Rattle.rules.specs.declared.Event.{Event}
+use Rattle.desk.specs.declared.Held.{Held}
 use Rattle.rules.specs.Events.{decoded}
-use lib.ListN.{take, drop}
-use Prim.Native.Nat.{ℕ, _+_, _*_, _-_}
-use mathlib.Core.Path.{_≡_, _∙_, ap}
+use lib.ListN.{length, take, drop, getD, List·getD-eq-default}
+use Prim.Native.Nat.{ℕ, _+_, _*_, _-_, _<_, _≤_}
+use mathlib.Core.Path.{_≡_, _∙_, sym, ap}
 use mathlib.Core.Logic.{⊎-elim}
 use native.Mathlib.Omega.{arith}
 use borrow.Author.Needs.{needs}
@@ -13,13 +23,13 @@ use Rattle.bench.proofs.runs.each.Statement.{statement}
 use Rattle.bench.proofs.runs.each.Tie as tie
 
 abbrev Inv-loop : tie.InvT-loop
-Inv-loop input answers₀ n h₀ i₀ answers h i = Going h₀ h input answers₀ answers n i
+Inv-loop input answers₀ n table₀ purses ether₀ archive₀ i₀ answers table ether archive i = Going (bench table₀ purses ether₀ archive₀) (bench table purses ether archive) input answers₀ answers n i
 
 abbrev μ-loop : tie.MeasureT-loop
-μ-loop input answers₀ n h₀ i₀ answers h i = n - i
+μ-loop input answers₀ n table₀ purses ether₀ archive₀ i₀ answers table ether archive i = n - i
 
 loop-holds : tie.Need-loop-holds Inv-loop μ-loop
-loop-holds c = going-start _ _ _ _ (c .before .before .pre .0)
+loop-holds c = going-start _ _ _ _ (c .before .before .before .before .before .before .pre .0)
 
 mul-at : tie.Need-mul-at Inv-loop μ-loop
 mul-at c = search needs
@@ -27,51 +37,152 @@ mul-at c = search needs
 add-end : tie.Need-add-end Inv-loop μ-loop
 add-end c = search needs
 
-sub-by-record : tie.Need-sub-by-record Inv-loop μ-loop
-sub-by-record c = search needs
+sub-decode : tie.Need-sub-decode Inv-loop μ-loop
+sub-decode c = search needs
 
-part-by-record-start : tie.Need-part-by-record-start Inv-loop μ-loop
-part-by-record-start c = search needs
+part-decode-start : tie.Need-part-decode-start Inv-loop μ-loop
+part-decode-start c = search needs
 
-part-by-record-end : tie.Need-part-by-record-end Inv-loop μ-loop
-part-by-record-end c = search needs
+part-decode-end : tie.Need-part-decode-end Inv-loop μ-loop
+part-decode-end c = search needs
 
-by-record-requires : tie.Need-by-record-requires Inv-loop μ-loop
-by-record-requires c κs = search needs
+decode-requires : tie.Need-decode-requires Inv-loop μ-loop
+decode-requires c κs = search needs
+
+place-of-requires : tie.Need-place-of-requires Inv-loop μ-loop
+place-of-requires c κs = search needs
+
+mul-p : tie.Need-mul-p Inv-loop μ-loop
+mul-p c =
+    let placed = c in
+    let below : placed .place-of .result < 32 = rw (placed .place-of .ensures) (place-below (placed .before .decode .result)) in
+    search needs
+
+array-copy-out-p : tie.Need-array-copy-out-p Inv-loop μ-loop
+array-copy-out-p c =
+    let placed = c in
+    let below : placed .place-of .result < 32 = rw (placed .place-of .ensures) (place-below (placed .before .decode .result)) in
+    search needs
+
+delivered-at-requires : tie.Need-delivered-at-requires Inv-loop μ-loop
+delivered-at-requires c κs = search needs
+
+mul-m : tie.Need-mul-m Inv-loop μ-loop
+mul-m c = search needs
+
+element-copy-out-m : tie.Need-element-copy-out-m Inv-loop μ-loop
+element-copy-out-m c = search needs
+
+zero-requires : tie.Need-zero-requires Inv-loop μ-loop
+zero-requires c κs = search needs
+
+choose-requires : tie.Need-choose-requires Inv-loop μ-loop
+choose-requires c κs = search needs
+
+mul-table : tie.Need-mul-table Inv-loop μ-loop
+mul-table c =
+    let placed = c .before .before .before .before .before .before in
+    let below : placed .place-of .result < 32 = rw (placed .place-of .ensures) (place-below (placed .before .decode .result)) in
+    search needs
+
+array-set-from-table : tie.Need-array-set-from-table Inv-loop μ-loop
+array-set-from-table c =
+    let placed = c .before .before .before .before .before .before in
+    let below : placed .place-of .result < 32 = rw (placed .place-of .ensures) (place-below (placed .before .decode .result)) in
+    search needs
+
+enum-told : tie.Need-enum-told Inv-loop μ-loop
+enum-told c = search needs
+
+enum-known-change : tie.Need-enum-known-change Inv-loop μ-loop
+enum-known-change c = search needs
+
+add-requires : tie.Need-add-requires Inv-loop μ-loop
+add-requires c κs = search needs
+
+tested-requires : tie.Need-tested-requires Inv-loop μ-loop
+tested-requires c κs = search needs
+
+enum-known-change-2 : tie.Need-enum-known-change-2 Inv-loop μ-loop
+enum-known-change-2 c = search needs
+
+cast-take-out : tie.Need-cast-take-out Inv-loop μ-loop
+cast-take-out c = search needs
+
+take-out-requires : tie.Need-take-out-requires Inv-loop μ-loop
+take-out-requires c κs = search needs
+
+enum-known-change-3 : tie.Need-enum-known-change-3 Inv-loop μ-loop
+enum-known-change-3 c = search needs
+
+store-requires : tie.Need-store-requires Inv-loop μ-loop
+store-requires c κs = search needs
 
 slice-write-answers : tie.Need-slice-write-answers Inv-loop μ-loop
 slice-write-answers c = search needs
 
 add-i : tie.Need-add-i Inv-loop μ-loop
-add-i c = search needs
+add-i c = omega (arith, c .before .before .before .before .before .before .before .before .loop-test .taken, c .before .before .before .before .before .before .before .before .before .before .before .before .before .before .before .before .fits .n)
 
 loop-less : tie.Need-loop-less Inv-loop μ-loop
 loop-less c = search needs
 
 loop-again : tie.Need-loop-again Inv-loop μ-loop
 loop-again c =
-    let turn = c .before in
-    let at-loop = turn .before .before .before in
-    let start = at-loop .before .before .before in
+    let chose = c .before in
+    let seen = chose .before in
+    let asked = seen .before in
+    let placed = asked .before .before in
+    let read = placed .before in
+    let turn = read .before .before in
+    let at-loop = turn .before in
+    let start = at-loop .before .before .before .before .before .before .before in
     let i = at-loop .loop .i in
-    let h = at-loop .loop .h in
     let input = start .args .input .now in
-    let twelve : 12 * i + 12 - 12 * i ≡ 12 = omega arith in
-    let said : turn .by-record .result ≡ byRecord h (decoded (take 12 (drop (12 * i) input))) =
-    turn .by-record .ensures ∙ ap (λ (k : ℕ). byRecord h (decoded (take k (drop (12 * i) input)))) twelve
+    let h : Held = bench (at-loop .loop .table) (start .args .held .desk .purses) (at-loop .loop .ether) (at-loop .loop .archive) in
+    let v : Event = read .decode .result in
+    let k : ℕ = placed .place-of .result in
+    let x : Chosen = chose .choose .result in
+    let ok = at-loop .loop .inv .ok in
+    let below : k < 32 = rw (placed .place-of .ensures) (place-below v) in
+    let inside : k < length (h .table) = omega (arith, below, long-parts h ok .0) in
+    let past : 256 ≤ asked .delivered-at .result → zeroMessage ≡ getD (h .desk .ether .places) (asked .delivered-at .result) zeroMessage =
+    λ g. sym (List·getD-eq-default (h .desk .ether .places) zeroMessage (omega (arith, g, long-parts h ok .1)))
     in
+    let m : seen .if1 .m ≡ getD (h .desk .ether .places) (deliveredAt v) zeroMessage =
     ⊎-elim
-    (λ w. rw (w .2) (going-on _ h input _ (at-loop .loop .answers) _ i _ (omega arith) (start .pre .2) said (at-loop .loop .inv)))
-    (λ w. rw (w .1) (going-past _ h input _ (at-loop .loop .answers) _ i _ (omega arith) (start .pre .2) said (w .0 .left) (at-loop .loop .inv)))
-    (c .if1 .came)
+    (λ w. w .2 ∙ at-any (h .desk .ether .places) (asked .delivered-at .result) _ zeroMessage (omega (arith, w .0 .taken, long-parts h ok .1)))
+    (λ w. w .2 ∙ (w .1 .ensures ∙ past (w .0 .left)))
+    (seen .if1 .came)
+    ∙ ap (λ (j : ℕ). getD (h .desk .ether .places) j zeroMessage) (asked .delivered-at .ensures)
+    in
+    let settles : settledAt h k x ≡ byRecord h v =
+    by-chosen h k x v _ (seen .if1 .m) (placed .place-of .ensures) (at-any (h .table) k _ zeroPurse inside) m (chose .choose .ensures)
+    in
+    let a : Answered = record { answer = c .if2 .answer; held = bench (c .if2 .table) (start .args .held .desk .purses) (c .if2 .ether) (c .if2 .archive) } in
+    let done : a ≡ settledAt h k x =
+    ⊎-elim
+    (λ w. rw (w .4, w .5, w .6, w .7) (when-nothing h k x (omega (arith, w .0 .taken)) (w .3 .given .1)))
+    (⊎-elim
+    (λ w. rw (w .8, w .9, w .10, w .11) (when-sent h k x (omega (arith, w .0 .taken)) _ (w .5 .result) _ (w .3 .given .1) (w .5 .ensures) (w .7 .ensures)))
+    (⊎-elim
+    (λ w. rw (w .7, w .8, w .9, w .10) (when-lost h k x (omega (arith, w .0 .taken)) _ (w .5 .result) (w .3 .given .1) (w .5 .ensures)))
+    (⊎-elim
+    (λ w. rw (w .6, w .7, w .8, w .9) (when-stored h k x (omega (arith, w .0 .taken)) _ (w .5 .result) (w .3 .given .1) (w .5 .ensures)))
+    (λ w. rw (w .1, w .2, w .3, w .4) (when-refused h k x (w .0 .left))))))
+    (c .if2 .came)
+    in
+    let twelve : 12 * i + 12 - 12 * i ≡ 12 = omega arith in
+    let said : a ≡ byRecord h (decoded (take 12 (drop (12 * i) input))) =
+    done ∙ (settles ∙ (ap (byRecord h) (read .decode .ensures) ∙ ap (λ (j : ℕ). byRecord h (decoded (take j (drop (12 * i) input)))) twelve))
+    in
+    going-on _ h input _ (at-loop .loop .answers) _ i a (turn .loop-test .taken) (start .pre .2) said (at-loop .loop .inv)
 
 same-length : tie.Need-same-length Inv-loop μ-loop
 same-length c = search needs
 
 returns : tie.Need-returns Inv-loop μ-loop
-returns c =
-    let at-loop = c .before in
-    going-end _ _ _ _ _ _ _ (omega arith) (at-loop .loop .inv)
+returns c = going-end _ _ _ _ _ _ _ (omega arith) (c .before .loop .inv)
 
 pub each-spec : {M : Type 1} → statement M
 each-spec =
@@ -82,10 +193,29 @@ each-spec =
     loop-holds
     mul-at
     add-end
-    sub-by-record
-    part-by-record-start
-    part-by-record-end
-    by-record-requires
+    sub-decode
+    part-decode-start
+    part-decode-end
+    decode-requires
+    place-of-requires
+    mul-p
+    array-copy-out-p
+    delivered-at-requires
+    mul-m
+    element-copy-out-m
+    zero-requires
+    choose-requires
+    mul-table
+    array-set-from-table
+    enum-told
+    enum-known-change
+    add-requires
+    tested-requires
+    enum-known-change-2
+    cast-take-out
+    take-out-requires
+    enum-known-change-3
+    store-requires
     slice-write-answers
     add-i
     loop-less

@@ -1,0 +1,83 @@
+-- One event of a run, where the table, the ether and the archive are kept apart: what is chosen at the record that the event names and
+-- what is seen of the desk, done at those parts, is the step of the whole (`byRecord`).
+-- Why: `byRecord` is what is chosen, settled and put back; a refusal puts back the record that was read, and each change touches one part.
+-- Assumes nothing.
+use Prim.Native.Nat.{ℕ}
+use mathlib.Core.Path.{_≡_}
+use mathlib.Core.Bool.{Bool, true, _&&_}
+use mathlib.Core.List.{List}
+use lib.ListN.{length, getD, set, drop}
+use lib.Dec.{leb, eqb}
+use borrow.Author.Tests.{eqb-true, eq-eqb, ne-eqb}
+use Rattle.purse.specs.declared.Message.{Message}
+use Rattle.purse.specs.declared.Purse.{Purse}
+use Rattle.purse.specs.Lists.{all}
+use Rattle.purse.specs.Tests.{after}
+use Rattle.purse.specs.Details.{zeroMessage}
+use Rattle.purse.specs.Purse.{zeroPurse}
+use Rattle.purse.proofs.Bools.{and-l, and-r}
+use Rattle.desk.specs.declared.Entry.{Entry}
+use Rattle.desk.specs.declared.Ether.{Ether}
+use Rattle.desk.specs.declared.Archive.{Archive}
+use Rattle.desk.specs.declared.Changed.{Changed}
+use Rattle.desk.specs.declared.Held.{Held}
+use Rattle.desk.specs.declared.Answered.{Answered}
+use Rattle.desk.specs.Desk.{added, takenOut, stored}
+use Rattle.rules.specs.declared.Event.{Event}
+use Rattle.rules.specs.Laid.{seen, isZeroPurse, isZeroMessage, isZeroEntry, placesOk, heldOk}
+use Rattle.rules.specs.Table.{tableOk}
+use Rattle.bench.specs.declared.Chosen.{Chosen}
+use Rattle.bench.specs.declared.Change.the-variants as change
+use Rattle.bench.specs.Acts.{placeOf, deliveredAt, chosen, withEther, withArchive, carriedOut, settled, actOn, putBack, byRecord}
+use Rattle.bench.proofs.ByRecord.{stays}
+
+-- what a bench holds, of its parts
+abbrev pub bench : List Purse → ℕ → Ether → Archive → Held
+bench table purses ether archive =
+    record { table = table; desk = record { purses = purses; ether = ether; archive = archive } }
+
+long : {A : Type 0} (f : A → Bool) (many n : ℕ) (l : List A) → placesOk f many n l ≡ true → length l ≡ many
+long f many n l p =
+    eqb-true _ _ (and-l (eqb (length l) many) (leb n many) (and-l (eqb (length l) many && leb n many) (all f (drop n l)) p))
+
+-- a table of 32 records, an ether of 256 places
+pub long-parts : (h : Held) → heldOk h ≡ true → (length (h .table) ≡ 32) × (length (h .desk .ether .places) ≡ 256)
+unfolding heldOk
+long-parts h w =
+    let ps : Bool = placesOk isZeroPurse 32 (h .desk .purses) (h .table) in
+    let ms : Bool = placesOk isZeroMessage 256 (h .desk .ether .count) (h .desk .ether .places) in
+    let es : Bool = placesOk isZeroEntry 256 (h .desk .archive .count) (h .desk .archive .places) in
+    let both : (ps && ms) ≡ true = and-l (ps && ms) es (and-l (ps && ms && es) (tableOk (seen h)) w) in (
+      long isZeroPurse 32 (h .desk .purses) (h .table) (and-l ps ms both),
+      long isZeroMessage 256 (h .desk .ether .count) (h .desk .ether .places) (and-r ps ms both),
+    )
+
+module _ (h : Held) (k : ℕ) (c : Chosen) where
+  -- what is chosen at the record in place k, settled and put back
+  abbrev pub settledAt : Answered
+  settledAt = putBack h k (settled (getD (h .table) k zeroPurse) (h .desk) c)
+
+  pub by-chosen : (v : Event) (p : Purse) (m : Message) → k ≡ placeOf v → p ≡ getD (h .table) k zeroPurse → m ≡ getD (h .desk .ether .places) (deliveredAt v) zeroMessage → c ≡ chosen p (record { purses = h .desk .purses; messages = h .desk .ether .count; entries = h .desk .archive .count; message = m }) v → settledAt ≡ byRecord h v
+  unfolding byRecord actOn
+  by-chosen v p m place read message choice = rw (choice, message, read, place)
+
+  pub when-refused : (c .answer ≡ 0 → ⊥) → record { answer = c .answer; held = h } ≡ settledAt
+  unfolding settled
+  when-refused z = rw (ne-eqb (c .answer) 0 z) (stays h (c .answer) k)
+
+  module _ (z : c .answer ≡ 0) where
+    pub when-nothing : c .change ≡ change.Nothing → record { answer = c .answer; held = record { table = set (h .table) k (c .purse); desk = h .desk } } ≡ settledAt
+    unfolding settled carriedOut
+    when-nothing e = rw (eq-eqb (c .answer) 0 z, e, z)
+
+    pub when-sent : (m : Message) (x : Changed) (n : ℕ) → c .change ≡ change.Send m → x ≡ added (h .desk .ether) m → n ≡ after 0 (x .lost) 1 → record { answer = n; held = record { table = set (h .table) k (c .purse); desk = withEther (h .desk) (x .ether) } } ≡ settledAt
+    unfolding settled carriedOut
+    when-sent m x n e s t = rw (eq-eqb (c .answer) 0 z, e, t, s)
+
+    pub when-lost : (i : ℕ) (x : Changed) → c .change ≡ change.Lose i → x ≡ takenOut (h .desk .ether) i → record { answer = c .answer; held = record { table = set (h .table) k (c .purse); desk = withEther (h .desk) (x .ether) } } ≡ settledAt
+    unfolding settled carriedOut
+    when-lost i x e s = rw (eq-eqb (c .answer) 0 z, e, z, s)
+
+    pub when-stored : (y : Entry) (a : Archive) → c .change ≡ change.Store y → a ≡ stored (h .desk .archive) y → record { answer = c .answer; held = record { table = set (h .table) k (c .purse); desk = withArchive (h .desk) a } } ≡ settledAt
+    unfolding settled carriedOut
+    when-stored y a e s = rw (eq-eqb (c .answer) 0 z, e, z, s)
