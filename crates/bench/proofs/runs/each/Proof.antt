@@ -6,7 +6,7 @@ use Rattle.bench.proofs.ByRecord.{place-below}
 use Rattle.bench.proofs.Parts.{bench, long-parts, settledAt, by-chosen, when-refused, when-nothing, when-sent, when-lost, when-stored}
 use Rattle.bench.specs.declared.Chosen.{Chosen}
 use Rattle.bench.specs.Acts.{deliveredAt, byRecord}
-use Rattle.table.proofs.Walks.{at-any}
+use Rattle.purse.proofs.Lists.{at-any}
 use Rattle.purse.specs.Details.{zeroMessage}
 use Rattle.purse.specs.Purse.{zeroPurse}
 use Rattle.desk.specs.declared.Answered.{Answered}
