@@ -113,6 +113,7 @@ toArchive entries own a =
       change = change.Store (record { by = own; details = a .entry });
     }
 
+-- the card is told to collect, likewise
 unfoldable pub toCollect : ℕ → Purse → ℕ → Name → Chosen
 toCollect n p entries own = cond (eqb n 0) (toArchive entries own (stepBy p own card.Collect)) (refusedAs n p)
 

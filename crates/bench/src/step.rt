@@ -15,14 +15,17 @@ pub fn by_record(held: Held, event: &[u8]) -> Answered
 {
     let e = decode(event);
     let i = place_of(e);
-    let p = held.table[i];
+    let mut table = held.table;
+    let p = table[i];
     let d = held.desk;
     let a = act(p, d, e);
     let q = a.purse;
     let next = a.desk;
-    let mut h = held;
-    h.table[i] = q;
-    h.desk = next;
+    table[i] = q;
+    let h = Held {
+        table: table,
+        desk: next,
+    };
     Answered {
         answer: a.answer,
         held: h,
@@ -33,11 +36,10 @@ pub fn event(held: Held, event: &[u8]) -> Answered
     ensures { λ r. ⌜ r ≡ heldStep held (now (event .entry)) ⌝ }
 {
     if table::held_ok(held) {
-        by_record(held, event)
-    } else {
-        Answered {
-            answer: 2,
-            held: held,
-        }
+        return by_record(held, event);
+    }
+    Answered {
+        answer: 2,
+        held: held,
     }
 }

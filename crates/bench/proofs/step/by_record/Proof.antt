@@ -21,33 +21,33 @@ place-of-requires c κs = search needs
 
 mul-p : tie.Need-mul-p
 mul-p c =
-    let below : c .place-of .result < 32 = rw (c .place-of .ensures) (place-below (c .before .decode .result)) in
+    let below : c .before .place-of .result < 32 = rw (c .before .place-of .ensures) (place-below (c .before .before .decode .result)) in
     search needs
 
-element-copy-out-p : tie.Need-element-copy-out-p
-element-copy-out-p c =
-    let below : c .place-of .result < 32 = rw (c .place-of .ensures) (place-below (c .before .decode .result)) in
+array-copy-out-p : tie.Need-array-copy-out-p
+array-copy-out-p c =
+    let below : c .before .place-of .result < 32 = rw (c .before .place-of .ensures) (place-below (c .before .before .decode .result)) in
     search needs
 
 act-requires : tie.Need-act-requires
 act-requires c κs = search needs
 
-mul-q : tie.Need-mul-q
-mul-q c =
-    let below : c .before .before .before .before .before .place-of .result < 32 = rw (c .before .before .before .before .before .place-of .ensures) (place-below (c .before .before .before .before .before .before .decode .result)) in
+mul-table : tie.Need-mul-table
+mul-table c =
+    let below : c .before .before .before .before .before .before .place-of .result < 32 = rw (c .before .before .before .before .before .before .place-of .ensures) (place-below (c .before .before .before .before .before .before .before .decode .result)) in
     search needs
 
-element-set-from-q : tie.Need-element-set-from-q
-element-set-from-q c =
-    let below : c .before .before .before .before .before .place-of .result < 32 = rw (c .before .before .before .before .before .place-of .ensures) (place-below (c .before .before .before .before .before .before .decode .result)) in
+array-set-from-table : tie.Need-array-set-from-table
+array-set-from-table c =
+    let below : c .before .before .before .before .before .before .place-of .result < 32 = rw (c .before .before .before .before .before .before .place-of .ensures) (place-below (c .before .before .before .before .before .before .before .decode .result)) in
     search needs
 
 returns : tie.Need-returns
 unfolding byRecord
 returns c =
-    let placed = c .before .before .before .before .before in
+    let placed = c .before .before .before .before .before .before in
     let start = placed .before .before .before in
-    let h = start .args .t1 in
+    let h = start .args .held in
     let i = placed .place-of .result in
     let e = placed .before .decode .result in
     let below : i < 32 = rw (placed .place-of .ensures) (place-below e) in
@@ -67,8 +67,8 @@ by-record-spec =
     decode-requires
     place-of-requires
     mul-p
-    element-copy-out-p
+    array-copy-out-p
     act-requires
-    mul-q
-    element-set-from-q
+    mul-table
+    array-set-from-table
     returns)
