@@ -2,5 +2,4 @@ pub mod ByRecord
 pub mod Filling
 pub mod OpenedTable
 pub mod Parts
-pub mod Summed
 pub mod Unique

@@ -9,10 +9,9 @@ use Rattle.purse.proofs.Unique.{one}
 use Rattle.desk.specs.declared.Desk.{Desk}
 use Rattle.desk.specs.declared.Held.{Held}
 use Rattle.desk.specs.declared.Answered.{Answered}
-use Rattle.desk.specs.declared.Figure.{Figure}
 use Rattle.rules.specs.declared.Event.{Event}
 use Rattle.rules.specs.Events.{decoded}
-use Rattle.rules.specs.Laid.{heldStep, heldRun, heldAnswers, heldOpening, heldClaims}
+use Rattle.rules.specs.Laid.{heldStep, heldRun, heldAnswers, heldOpening}
 use Rattle.bench.specs.declared.Acted.{Acted}
 use Rattle.bench.specs.declared.Ran.{Ran}
 use Rattle.bench.specs.Acts.{placeOf, actOn, byRecord}
@@ -35,9 +34,6 @@ event-one h l r s e f = one e f
 
 pub opening-one : (h : Held) (bs : List ℕ) (r s : Answered) → r ≡ heldOpening h bs → s ≡ heldOpening h bs → r ≡ s
 opening-one h bs r s e f = one e f
-
-pub claims-one : (h : Held) (r s : Figure) → r ≡ heldClaims h → s ≡ heldClaims h → r ≡ s
-claims-one h r s e f = one e f
 
 -- what a run promises of its result and of the answers as it leaves them
 abbrev RunSays : Held → List ℕ → List ℕ → Ran → List ℕ → Type 0

@@ -1,4 +1,3 @@
 pub mod Acts
 pub mod Opens
-pub mod Claims
 pub mod Runs

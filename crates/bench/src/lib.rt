@@ -9,7 +9,6 @@ use purse::Purse;
 mod acts; // acts.rt: what an event does at one record and the desk
 mod events; // events.rt: an event's bytes read
 mod open; // open.rt: a bench opened
-mod owed; // owed.rt: the claims figure
 mod runs; // runs.rt: many events
 mod step; // step.rt: an event at the whole bench
 
@@ -17,7 +16,6 @@ pub use acts::act;
 pub use acts::place_of;
 pub use events::decode;
 pub use open::opening;
-pub use owed::claims;
 pub use runs::run;
 pub use step::event;
 

@@ -1,10 +1,10 @@
 // The bench's steps by value, as the entries call them: an event's bytes in place of the event, a table and a desk in place of what both make.
 use bench::Acted;
 use bench::act;
-use bench::claims;
 use bench::decode;
 use bench::opening;
 use bench::place_of;
+use claims::claims;
 use desk::Answered;
 use desk::Desk;
 use desk::Figure;

@@ -77,6 +77,6 @@ pub fn foot(out: &mut [u8], held: Held) -> usize
     if out.len() < 4096 {
         return 0;
     }
-    let figure = bench::claims(held);
+    let figure = claims::claims(held);
     put_foot(out, held, figure.claims)
 }

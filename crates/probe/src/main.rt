@@ -139,7 +139,7 @@ fn write(held: Held, bytes: &mut [u8]) -> bool {
 }
 
 fn claims(held: Held) -> bool {
-    let f = bench::claims(held);
+    let f = claims::claims(held);
     let answer = f.answer;
     let mut out = [answer, 0, 0, 0, 0];
     let figure = f.claims;

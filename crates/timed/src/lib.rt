@@ -52,7 +52,7 @@ pub extern "C" fn timed_run(held: Held, input: &[u8], answers: &mut [u8]) -> Ran
 pub extern "C" fn timed_claims(held: Held) -> Figure
     ensures { λ r. ⌜ r ≡ heldClaims held ⌝ }
 {
-    bench::claims(held)
+    claims::claims(held)
 }
 
 #[no_mangle]

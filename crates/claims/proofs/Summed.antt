@@ -29,7 +29,7 @@ use Rattle.rules.specs.Paid.{amountOf, claimedWith, claims}
 use Rattle.rules.specs.Laid.{seen, isZeroEntry, heldOk}
 use Rattle.rules.proofs.Facts.{is-in, is-lists}
 use Rattle.rules.proofs.Places.{places-fit, obeys, seen-ok}
-use Rattle.bench.specs.Claims.{archived, hit, claimOf, bounded}
+use Rattle.claims.specs.Claims.{archived, hit, claimOf, bounded}
 
 module _ (a : Archive) (long : length (a .places) ≡ 256) (few : a .count ≤ 256) (i : ℕ) where
   archived-length : length (archived a) ≡ a .count

@@ -12,7 +12,7 @@ ghost use Rattle.purse.specs.Lists.{all, among, total};
 ghost use Rattle.purse.specs.Details.{sameDetails};
 ghost use Rattle.rules.specs.Bench.{archivedBy};
 ghost use Rattle.rules.specs.Laid.{heldClaims};
-ghost use Rattle.bench.specs.Claims.{archived, hit, claimOf, bounded};
+ghost use Rattle.claims.specs.Claims.{archived, hit, claimOf, bounded};
 
 // Whether an entry is that purse's, with those details.
 fn is_hit(e: Entry, by: Name, d: Details) -> bool

@@ -1,8 +1,8 @@
--- `bench::owed::sum` meets its contract: the loop's invariant: the sum so far and what the entries not passed yet add is the whole, and
+-- `claims::sum` meets its contract: the loop's invariant: the sum so far and what the entries not passed yet add is the whole, and
 -- the sum is at most 5,000,000 an entry.
 -- Assumes nothing.
-use Rattle.bench.proofs.Summed.{total-on, total-end, bounded-at, claim-most}
-use Rattle.bench.specs.Claims.{archived, claimOf}
+use Rattle.claims.proofs.Summed.{total-on, total-end, bounded-at, claim-most}
+use Rattle.claims.specs.Claims.{archived, claimOf}
 use Rattle.desk.specs.Desk.{zeroEntry}
 use Rattle.purse.specs.Lists.{total}
 use lib.ListN.{length, length-map, drop, getD}
@@ -10,8 +10,8 @@ use Prim.Native.Nat.{_+_, _*_, _-_, _≤_}
 use mathlib.Core.Path.{_≡_}
 use native.Mathlib.Omega.{arith}
 use borrow.Author.Needs.{needs}
-use Rattle.bench.proofs.owed.sum.Statement.{statement}
-use Rattle.bench.proofs.owed.sum.Tie as tie
+use Rattle.claims.proofs.sum.Statement.{statement}
+use Rattle.claims.proofs.sum.Tie as tie
 
 abbrev Inv-loop : tie.InvT-loop
 Inv-loop a count i₀ sum₀ i sum =

@@ -1,12 +1,12 @@
--- `bench::owed::claims` meets its contract: one pass over the archive is the sum over the purses (`claims-once`).
+-- `claims::claims` meets its contract: one pass over the archive is the sum over the purses (`claims-once`).
 -- Assumes nothing.
-use Rattle.bench.proofs.Summed.{held-few, held-bounded, claims-once}
+use Rattle.claims.proofs.Summed.{held-few, held-bounded, claims-once}
 use Rattle.rules.specs.Laid.{heldOk, heldClaims}
 use mathlib.Core.Bool.{true}
 use mathlib.Core.Path.{_≡_, _∙_, sym}
 use borrow.Author.Needs.{needs}
-use Rattle.bench.proofs.owed.claims.Statement.{statement}
-use Rattle.bench.proofs.owed.claims.Tie as tie
+use Rattle.claims.proofs.claims.Statement.{statement}
+use Rattle.claims.proofs.claims.Tie as tie
 
 held-ok-requires : tie.Need-held-ok-requires
 held-ok-requires c κs = search needs

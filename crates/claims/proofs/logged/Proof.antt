@@ -1,8 +1,8 @@
--- `bench::owed::logged` meets its contract: the loop's invariant: the answer for the whole archive is the answer for the entries not
+-- `claims::logged` meets its contract: the loop's invariant: the answer for the whole archive is the answer for the entries not
 -- passed yet.
 -- Assumes nothing.
-use Rattle.bench.proofs.Summed.{logged-here, logged-later, logged-end}
-use Rattle.bench.specs.Claims.{archived}
+use Rattle.claims.proofs.Summed.{logged-here, logged-later, logged-end}
+use Rattle.claims.specs.Claims.{archived}
 use Rattle.rules.specs.Bench.{archivedBy}
 use Rattle.purse.specs.Details.{sameDetails}
 use Rattle.purse.specs.Lists.{among}
@@ -11,8 +11,8 @@ use Prim.Native.Nat.{_-_, _≤_}
 use mathlib.Core.Path.{_≡_, refl, _∙_, sym}
 use native.Mathlib.Omega.{arith}
 use borrow.Author.Needs.{needs}
-use Rattle.bench.proofs.owed.logged.Statement.{statement}
-use Rattle.bench.proofs.owed.logged.Tie as tie
+use Rattle.claims.proofs.logged.Statement.{statement}
+use Rattle.claims.proofs.logged.Tie as tie
 
 abbrev Inv-loop : tie.InvT-loop
 Inv-loop by d a count i₀ i =

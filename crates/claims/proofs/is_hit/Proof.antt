@@ -1,8 +1,8 @@
--- `bench::owed::is_hit` meets its contract: field by field.
+-- `claims::is_hit` meets its contract: field by field.
 -- Assumes nothing.
 use borrow.Author.Needs.{needs}
-use Rattle.bench.proofs.owed.is_hit.Statement.{statement}
-use Rattle.bench.proofs.owed.is_hit.Tie as tie
+use Rattle.claims.proofs.is_hit.Statement.{statement}
+use Rattle.claims.proofs.is_hit.Tie as tie
 
 same-requires : tie.Need-same-requires
 same-requires c κs = search needs

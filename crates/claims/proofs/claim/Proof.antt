@@ -1,11 +1,11 @@
--- `bench::owed::claim` meets its contract: its payer logged it, and its payee too.
+-- `claims::claim` meets its contract: its payer logged it, and its payee too.
 -- Assumes nothing.
-use Rattle.bench.specs.Claims.{claimOf}
+use Rattle.claims.specs.Claims.{claimOf}
 use mathlib.Core.Path.{_∙_, sym}
 use borrow.Author.Tests.{eq-eqb, ne-eqb}
 use borrow.Author.Needs.{needs}
-use Rattle.bench.proofs.owed.claim.Statement.{statement}
-use Rattle.bench.proofs.owed.claim.Tie as tie
+use Rattle.claims.proofs.claim.Statement.{statement}
+use Rattle.claims.proofs.claim.Tie as tie
 
 logged-requires : tie.Need-logged-requires
 logged-requires c κs = search needs
