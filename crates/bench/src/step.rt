@@ -10,7 +10,7 @@ ghost use Rattle.rules.specs.Laid.{heldStep};
 ghost use Rattle.bench.specs.Acts.{byRecord};
 
 // One record is looked up, and put back; where the table is well formed that is the whole step.
-pub fn by_record(held: Held, event: &[u8]) -> Answered
+fn by_record(held: Held, event: &[u8]) -> Answered
     ensures { λ r. ⌜ r ≡ byRecord held (decoded (now (event .entry))) ⌝ }
 {
     let e = decode(event);
