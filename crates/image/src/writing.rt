@@ -4,7 +4,6 @@ use crate::records::put_entry;
 use crate::records::put_message;
 use crate::records::put_purse;
 use desk::Archive;
-use desk::Desk;
 use desk::Ether;
 use desk::Held;
 use purse::Purse;

@@ -4,7 +4,6 @@ use crate::text::put_field;
 use crate::text::put_named;
 use crate::text::put_number;
 use crate::text::put_text;
-ghost use mathlib.Core.Path.{_≡_};
 ghost use Prim.Native.Nat.{_+_, _≤_, _<_};
 ghost use lib.ListN.{length};
 ghost use lib.Dec.{leb};

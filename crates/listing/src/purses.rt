@@ -5,7 +5,7 @@ use crate::text::put_two;
 use desk::Held;
 use purse::Purse;
 ghost use mathlib.Core.Path.{_≡_};
-ghost use Prim.Native.Nat.{_+_, _*_, _≤_, min};
+ghost use Prim.Native.Nat.{_+_, _≤_, min};
 ghost use lib.ListN.{length, take};
 ghost use lib.Dec.{leb};
 ghost use Rattle.listing.specs.Text.{Written, Filled, numbered};

@@ -9,7 +9,6 @@ use libc::STDOUT_FILENO;
 use purse::Amount;
 use purse::CardEvent;
 use purse::Name;
-use purse::Purse;
 use purse::Seq;
 ghost use Prim.Native.Nat.{_≤_, _<_};
 ghost use lib.ListN.{length};

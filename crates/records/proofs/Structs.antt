@@ -13,7 +13,6 @@ use denote.RattleType.{RattleType}
 use denote.Laws.{Is, Makes}
 use denote.Memory.{mem}
 use denote.Array.{Array, array-vals, array-lawful, array-makes}
-use denote.Steps.{only}
 use denote.Struct.Laws as LL
 use Rattle.purse.specs.declared.Purse.{Purse}
 use Rattle.desk.specs.declared.Desk.{Desk}
@@ -43,9 +42,6 @@ Table = Array T.the-row 32
 
 abbrev pub tvals : List Purse → List Val
 tvals t = array-vals (LL.vals T.the-type T′.the-laws) t
-
-abbrev pub tval : List Purse → Val
-tval t = only (tvals t)
 
 module _ {M : Type 1} (𝓤 : URA M) (H : Heap 𝓤) (A : Atoms 𝓤) (W : Given 𝓤 H A) where
   pub table-typed : (l : List Purse) (v : Val) → Is Table l (v ∷ []) → Holds (hasTy (tyArray T′.mir 32) v) × WT v

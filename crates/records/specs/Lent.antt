@@ -1,5 +1,4 @@
 -- The lent table beside the desk: what an entry replies and leaves in the table, read off what the bench's definitions say of both together.
-use Prim.Native.Nat.{ℕ}
 use mathlib.Core.Bool.{cond}
 use mathlib.Core.List.{List}
 use lib.ListN.{length, replicate}

@@ -1,6 +1,6 @@
 -- "An event is 12 bytes, numbers big-endian: kind, purse, counterparty, spare (0), number (4), amount (4)."
 use Prim.Native.Nat.{ℕ}
-use mathlib.Core.Bool.{Bool, _&&_, cond}
+use mathlib.Core.Bool.{_&&_, cond}
 use mathlib.Core.List.{List}
 use lib.ListN.{length, getD}
 use lib.Dec.{eqb}

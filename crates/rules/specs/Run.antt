@@ -1,7 +1,7 @@
 -- Opening, and a run of events.
 use Prim.Native.Nat.{ℕ}
 use mathlib.Core.Bool.{_&&_, not}
-use mathlib.Core.List.{List, [], _∷_, _++_, map}
+use mathlib.Core.List.{List, [], _∷_, map}
 use lib.ListN.{length}
 use lib.Dec.{leb}
 use Rattle.purse.specs.declared.Purse.{Purse}

@@ -1,7 +1,7 @@
 -- "A table is well formed when all of these hold": the bullets of document 01, in its order.
 use Prim.Native.Nat.{ℕ}
 use mathlib.Core.Bool.{Bool, _&&_, _||_, not}
-use mathlib.Core.List.{List, _++_}
+use mathlib.Core.List.{_++_}
 use lib.ListN.{length}
 use lib.Dec.{ltb, leb, eqb}
 use Rattle.purse.specs.declared.Name.{Name}

@@ -1,7 +1,5 @@
 -- `image::reading::get_bench` meets its contract. Where no test of the head applies, each list lies within the bytes, and the places hold what the definition lays there.
 -- Assumes nothing.
-use mathlib.Core.Path.{sym, _∙_}
-use Rattle.layout.specs.Head.{pursesIn}
 use Rattle.layout.proofs.Heads.{head-ok}
 use Rattle.layout.proofs.Whole.{placed}
 use borrow.Author.Needs.{needs}
