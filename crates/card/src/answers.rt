@@ -9,7 +9,7 @@ ghost use Rattle.purse.specs.Details.{zeroDetails, zeroMessage};
 ghost use Rattle.purse.specs.Step.{refusedBy, done, idleWith};
 
 // Refused: the record as it was, and nothing handed out.
-pub fn refused(p: Purse, n: u8) -> CardAnswer
+pub(crate) fn refused(p: Purse, n: u8) -> CardAnswer
     ensures { λ r. ⌜ r ≡ refusedBy n p ⌝ }
 {
     CardAnswer {
@@ -21,7 +21,7 @@ pub fn refused(p: Purse, n: u8) -> CardAnswer
 }
 
 // Done: the purse, with what it hands out.
-pub fn gives(p: Purse, m: Message, e: Details) -> CardAnswer
+pub(crate) fn gives(p: Purse, m: Message, e: Details) -> CardAnswer
     ensures { λ r. ⌜ r ≡ done p m e ⌝ }
 {
     CardAnswer {
@@ -33,21 +33,21 @@ pub fn gives(p: Purse, m: Message, e: Details) -> CardAnswer
 }
 
 // Done, with a message to send.
-pub fn sends(p: Purse, m: Message) -> CardAnswer
+pub(crate) fn sends(p: Purse, m: Message) -> CardAnswer
     ensures { λ r. ⌜ r ≡ done p m zeroDetails ⌝ }
 {
     gives(p, m, Details::zero())
 }
 
 // Done, with nothing handed out.
-pub fn quiet(p: Purse) -> CardAnswer
+pub(crate) fn quiet(p: Purse) -> CardAnswer
     ensures { λ r. ⌜ r ≡ done p zeroMessage zeroDetails ⌝ }
 {
     sends(p, Message::zero())
 }
 
 // The purse idle, with that balance.
-pub fn idle(p: Purse, balance: Amount) -> Purse
+pub(crate) fn idle(p: Purse, balance: Amount) -> Purse
     ensures { λ r. ⌜ r ≡ idleWith balance p ⌝ }
 {
     let z = Details::zero();

@@ -53,7 +53,7 @@ fn settle(p: Purse) -> CardAnswer
 }
 
 // The purse gets a message; one that it does not wait for is refused.
-pub fn deliver(p: Purse, own: Name, m: Message) -> CardAnswer
+pub(crate) fn deliver(p: Purse, own: Name, m: Message) -> CardAnswer
     ensures { λ r. ⌜ r ≡ deliverTo p own m ⌝ }
 {
     let n = deliver_number(p, own, m);

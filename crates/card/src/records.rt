@@ -43,7 +43,7 @@ fn quit(p: Purse) -> Purse
 }
 
 // A purse that is stopped: idle again, whatever it was busy with.
-pub fn abort(p: Purse, own: Name) -> CardAnswer
+pub(crate) fn abort(p: Purse, own: Name) -> CardAnswer
     ensures { λ r. ⌜ r ≡ abortBy p own ⌝ }
 {
     let n = abort_number(p, own);
@@ -55,7 +55,7 @@ pub fn abort(p: Purse, own: Name) -> CardAnswer
 }
 
 // The oldest entry out, the later ones one place down.
-pub fn moved_down(l: [Details; 8]) -> [Details; 8]
+pub(crate) fn moved_down(l: [Details; 8]) -> [Details; 8]
     ensures { λ r. ⌜ r ≡ movedDown l ⌝ }
 {
     let z = Details::zero();
@@ -63,7 +63,7 @@ pub fn moved_down(l: [Details; 8]) -> [Details; 8]
 }
 
 // The first place of the log.
-pub fn oldest(p: Purse) -> Details
+pub(crate) fn oldest(p: Purse) -> Details
     ensures { λ r. ⌜ r ≡ getD (p .log) 0 zeroDetails ⌝ }
 {
     p.log[0]
@@ -83,7 +83,7 @@ fn take_oldest(p: Purse) -> Purse
 }
 
 // The oldest log entry leaves the purse and is handed out.
-pub fn collect(p: Purse, own: Name) -> CardAnswer
+pub(crate) fn collect(p: Purse, own: Name) -> CardAnswer
     ensures { λ r. ⌜ r ≡ collectBy p own ⌝ }
 {
     let n = collect_number(p, own);

@@ -30,7 +30,7 @@ fn begun(p: Purse, status: u8, d: Details) -> Purse
 }
 
 // The details of a payer, with its next number.
-pub fn from_details(p: Purse, own: Name, other: Name, seq: Seq, amount: Amount) -> Details
+pub(crate) fn from_details(p: Purse, own: Name, other: Name, seq: Seq, amount: Amount) -> Details
     ensures { λ r. ⌜ r ≡ fromDetails p own other seq amount ⌝ }
 {
     let next = p.next;
@@ -44,7 +44,7 @@ pub fn from_details(p: Purse, own: Name, other: Name, seq: Seq, amount: Amount) 
 }
 
 // The details of a payee, with its next number.
-pub fn to_details(p: Purse, own: Name, other: Name, seq: Seq, amount: Amount) -> Details
+pub(crate) fn to_details(p: Purse, own: Name, other: Name, seq: Seq, amount: Amount) -> Details
     ensures { λ r. ⌜ r ≡ toDetails p own other seq amount ⌝ }
 {
     let next = p.next;
@@ -70,7 +70,7 @@ fn asks(p: Purse, d: Details) -> CardAnswer
 }
 
 // The purse becomes payer; it waits for the request.
-pub fn start_from(p: Purse, own: Name, other: Name, seq: Seq, amount: Amount) -> CardAnswer
+pub(crate) fn start_from(p: Purse, own: Name, other: Name, seq: Seq, amount: Amount) -> CardAnswer
     ensures { λ r. ⌜ r ≡ startFrom p own other seq amount ⌝ }
 {
     let n = from_number(p, own, other, amount);
@@ -82,7 +82,7 @@ pub fn start_from(p: Purse, own: Name, other: Name, seq: Seq, amount: Amount) ->
 }
 
 // The purse becomes payee; it sends the request and waits for the value.
-pub fn start_to(p: Purse, own: Name, other: Name, seq: Seq, amount: Amount) -> CardAnswer
+pub(crate) fn start_to(p: Purse, own: Name, other: Name, seq: Seq, amount: Amount) -> CardAnswer
     ensures { λ r. ⌜ r ≡ startTo p own other seq amount ⌝ }
 {
     let n = to_number(p, own, other, amount);

@@ -18,7 +18,7 @@ ghost use Rattle.layout.specs.Head.{headBytes, headTests, imageLength};
 pub const VERSION: u16 = 1;
 
 // How long an image of so many purses, messages and entries is.
-pub fn image_length(purses: u8, messages: u16, entries: u16) -> usize
+pub(crate) fn image_length(purses: u8, messages: u16, entries: u16) -> usize
     ensures { λ r. ⌜ r ≡ imageLength purses messages entries ⌝ }
 {
     HEAD_WIDTH
@@ -27,7 +27,7 @@ pub fn image_length(purses: u8, messages: u16, entries: u16) -> usize
         + ENTRY_WIDTH * (entries as usize)
 }
 
-pub fn put_head(out: &mut [u8], purses: u8, messages: u16, entries: u16) -> usize
+pub(crate) fn put_head(out: &mut [u8], purses: u8, messages: u16, entries: u16) -> usize
     requires { ⌜ headWidth ≤ length (now out) ⌝ }
     ensures { λ r. ⌜ (r ≡ headWidth) × (now (out .exit) ≡ put (now (out .entry)) 0 (headBytes purses messages entries)) ⌝ }
 {
@@ -41,7 +41,7 @@ pub fn put_head(out: &mut [u8], purses: u8, messages: u16, entries: u16) -> usiz
 }
 
 // The number of the first test of the head that applies, or 0.
-pub fn head_number(s: &[u8]) -> u8
+pub(crate) fn head_number(s: &[u8]) -> u8
     ensures { λ r. ⌜ r ≡ first (headTests (now (s .entry))) ⌝ }
 {
     let length = s.len();

@@ -5,7 +5,7 @@ ghost use lib.ListN.{length};
 ghost use Rattle.bigendian.specs.Bytes.{put, byte, big, numberAt};
 
 // One byte.
-pub fn put_byte(out: &mut [u8], at: usize, v: u8) -> usize
+pub(crate) fn put_byte(out: &mut [u8], at: usize, v: u8) -> usize
     requires { ⌜ at + 1 ≤ length (now out) ⌝ }
     ensures { λ r. ⌜ (r ≡ at + 1) × (now (out .exit) ≡ put (now (out .entry)) at (byte v)) ⌝ }
 {
@@ -14,7 +14,7 @@ pub fn put_byte(out: &mut [u8], at: usize, v: u8) -> usize
 }
 
 // A count in two bytes.
-pub fn put_count(out: &mut [u8], at: usize, v: u16) -> usize
+pub(crate) fn put_count(out: &mut [u8], at: usize, v: u16) -> usize
     requires { ⌜ at + 2 ≤ length (now out) ⌝ }
     ensures { λ r. ⌜ (r ≡ at + 2) × (now (out .exit) ≡ put (now (out .entry)) at (big 2 v)) ⌝ }
 {
@@ -24,7 +24,7 @@ pub fn put_count(out: &mut [u8], at: usize, v: u16) -> usize
 }
 
 // A number in four bytes.
-pub fn put_number(out: &mut [u8], at: usize, v: u32) -> usize
+pub(crate) fn put_number(out: &mut [u8], at: usize, v: u32) -> usize
     requires { ⌜ at + 4 ≤ length (now out) ⌝ }
     ensures { λ r. ⌜ (r ≡ at + 4) × (now (out .exit) ≡ put (now (out .entry)) at (big 4 v)) ⌝ }
 {
@@ -41,7 +41,7 @@ fn wide(x: u8) -> u16
     x as u16
 }
 
-pub fn get_count(s: &[u8], at: usize) -> u16
+pub(crate) fn get_count(s: &[u8], at: usize) -> u16
     requires { ⌜ at + 2 ≤ length (now s) ⌝ }
     ensures { λ r. ⌜ r ≡ numberAt 2 (now (s .entry)) at ⌝ }
 {

@@ -28,7 +28,7 @@ ghost use Rattle.layout.specs.Records.{purseAt, messageAt, entryAt};
 ghost use Rattle.layout.specs.Head.{headTests};
 ghost use Rattle.layout.specs.Image.{benchIn};
 
-pub fn get_purses(s: &[u8], at: usize, count: u8) -> [Purse; 32]
+pub(crate) fn get_purses(s: &[u8], at: usize, count: u8) -> [Purse; 32]
     requires { ⌜ (count ≤ 32) × (at + purseWidth * count ≤ length (now s)) ⌝ }
     ensures { λ r. ⌜ r ≡ many purseAt purseWidth count (now (s .entry)) at ++ replicate (32 - count) zeroPurse ⌝ }
 {
@@ -46,7 +46,7 @@ pub fn get_purses(s: &[u8], at: usize, count: u8) -> [Purse; 32]
     table
 }
 
-pub fn get_messages(s: &[u8], at: usize, count: u16) -> Ether
+pub(crate) fn get_messages(s: &[u8], at: usize, count: u16) -> Ether
     requires { ⌜ (count ≤ 256) × (at + messageWidth * count ≤ length (now s)) ⌝ }
     ensures { λ r. ⌜ r ≡ record { places = many messageAt messageWidth count (now (s .entry)) at ++ replicate (256 - count) zeroMessage; count = count } ⌝ }
 {
@@ -67,7 +67,7 @@ pub fn get_messages(s: &[u8], at: usize, count: u16) -> Ether
     }
 }
 
-pub fn get_entries(s: &[u8], at: usize, count: u16) -> Archive
+pub(crate) fn get_entries(s: &[u8], at: usize, count: u16) -> Archive
     requires { ⌜ (count ≤ 256) × (at + entryWidth * count ≤ length (now s)) ⌝ }
     ensures { λ r. ⌜ r ≡ record { places = many entryAt entryWidth count (now (s .entry)) at ++ replicate (256 - count) zeroEntry; count = count } ⌝ }
 {
@@ -89,7 +89,7 @@ pub fn get_entries(s: &[u8], at: usize, count: u16) -> Archive
 }
 
 // The bench of an image whose head is right.
-pub fn get_bench(s: &[u8]) -> Held
+pub(crate) fn get_bench(s: &[u8]) -> Held
     requires { ⌜ first (headTests (now s)) ≡ 0 ⌝ }
     ensures { λ r. ⌜ r ≡ benchIn (now (s .entry)) ⌝ }
 {

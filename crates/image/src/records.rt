@@ -17,7 +17,7 @@ ghost use Rattle.bigendian.specs.Bytes.{put};
 ghost use Rattle.layout.specs.Widths.{detailsWidth, logWidth, purseWidth, messageWidth, entryWidth};
 ghost use Rattle.layout.specs.Records.{detailsBytes, detailsAt, logBytes, logAt, purseBytes, purseAt, messageBytes, messageAt, entryBytes, entryAt};
 
-pub fn put_details(out: &mut [u8], at: usize, d: Details) -> usize
+pub(crate) fn put_details(out: &mut [u8], at: usize, d: Details) -> usize
     requires { ⌜ at + detailsWidth ≤ length (now out) ⌝ }
     ensures { λ r. ⌜ (r ≡ at + detailsWidth) × (now (out .exit) ≡ put (now (out .entry)) at (detailsBytes d)) × (length (detailsBytes d) ≡ detailsWidth) ⌝ }
 {
@@ -28,7 +28,7 @@ pub fn put_details(out: &mut [u8], at: usize, d: Details) -> usize
     put_number(out, e, d.amount.0)
 }
 
-pub fn get_details(s: &[u8], at: usize) -> Details
+pub(crate) fn get_details(s: &[u8], at: usize) -> Details
     requires { ⌜ at + detailsWidth ≤ length (now s) ⌝ }
     ensures { λ r. ⌜ r ≡ detailsAt (now (s .entry)) at ⌝ }
 {
@@ -47,7 +47,7 @@ pub fn get_details(s: &[u8], at: usize) -> Details
 }
 
 // The eight places of a log.
-pub fn put_log(out: &mut [u8], at: usize, log: [Details; 8]) -> usize
+pub(crate) fn put_log(out: &mut [u8], at: usize, log: [Details; 8]) -> usize
     requires { ⌜ at + logWidth ≤ length (now out) ⌝ }
     ensures { λ r. ⌜ (r ≡ at + logWidth) × (now (out .exit) ≡ put (now (out .entry)) at (logBytes log)) × (length (logBytes log) ≡ logWidth) ⌝ }
 {
@@ -61,7 +61,7 @@ pub fn put_log(out: &mut [u8], at: usize, log: [Details; 8]) -> usize
     to
 }
 
-pub fn get_log(s: &[u8], at: usize) -> [Details; 8]
+pub(crate) fn get_log(s: &[u8], at: usize) -> [Details; 8]
     requires { ⌜ at + logWidth ≤ length (now s) ⌝ }
     ensures { λ r. ⌜ r ≡ logAt (now (s .entry)) at ⌝ }
 {
@@ -78,7 +78,7 @@ pub fn get_log(s: &[u8], at: usize) -> [Details; 8]
     log
 }
 
-pub fn put_purse(out: &mut [u8], at: usize, p: Purse) -> usize
+pub(crate) fn put_purse(out: &mut [u8], at: usize, p: Purse) -> usize
     requires { ⌜ at + purseWidth ≤ length (now out) ⌝ }
     ensures { λ r. ⌜ (r ≡ at + purseWidth) × (now (out .exit) ≡ put (now (out .entry)) at (purseBytes p)) × (length (purseBytes p) ≡ purseWidth) ⌝ }
 {
@@ -92,7 +92,7 @@ pub fn put_purse(out: &mut [u8], at: usize, p: Purse) -> usize
     put_log(out, e, log)
 }
 
-pub fn get_purse(s: &[u8], at: usize) -> Purse
+pub(crate) fn get_purse(s: &[u8], at: usize) -> Purse
     requires { ⌜ at + purseWidth ≤ length (now s) ⌝ }
     ensures { λ r. ⌜ r ≡ purseAt (now (s .entry)) at ⌝ }
 {
@@ -112,7 +112,7 @@ pub fn get_purse(s: &[u8], at: usize) -> Purse
     }
 }
 
-pub fn put_message(out: &mut [u8], at: usize, m: Message) -> usize
+pub(crate) fn put_message(out: &mut [u8], at: usize, m: Message) -> usize
     requires { ⌜ at + messageWidth ≤ length (now out) ⌝ }
     ensures { λ r. ⌜ (r ≡ at + messageWidth) × (now (out .exit) ≡ put (now (out .entry)) at (messageBytes m)) × (length (messageBytes m) ≡ messageWidth) ⌝ }
 {
@@ -121,7 +121,7 @@ pub fn put_message(out: &mut [u8], at: usize, m: Message) -> usize
     put_details(out, a, details)
 }
 
-pub fn get_message(s: &[u8], at: usize) -> Message
+pub(crate) fn get_message(s: &[u8], at: usize) -> Message
     requires { ⌜ at + messageWidth ≤ length (now s) ⌝ }
     ensures { λ r. ⌜ r ≡ messageAt (now (s .entry)) at ⌝ }
 {
@@ -133,7 +133,7 @@ pub fn get_message(s: &[u8], at: usize) -> Message
     }
 }
 
-pub fn put_entry(out: &mut [u8], at: usize, e: Entry) -> usize
+pub(crate) fn put_entry(out: &mut [u8], at: usize, e: Entry) -> usize
     requires { ⌜ at + entryWidth ≤ length (now out) ⌝ }
     ensures { λ r. ⌜ (r ≡ at + entryWidth) × (now (out .exit) ≡ put (now (out .entry)) at (entryBytes e)) × (length (entryBytes e) ≡ entryWidth) ⌝ }
 {
@@ -142,7 +142,7 @@ pub fn put_entry(out: &mut [u8], at: usize, e: Entry) -> usize
     put_details(out, a, details)
 }
 
-pub fn get_entry(s: &[u8], at: usize) -> Entry
+pub(crate) fn get_entry(s: &[u8], at: usize) -> Entry
     requires { ⌜ at + entryWidth ≤ length (now s) ⌝ }
     ensures { λ r. ⌜ r ≡ entryAt (now (s .entry)) at ⌝ }
 {

@@ -17,7 +17,7 @@ ghost use Rattle.layout.specs.Records.{purseBytes, messageBytes, entryBytes};
 ghost use Rattle.rules.specs.Laid.{heldOk};
 ghost use Rattle.layout.specs.Image.{imageOf};
 
-pub fn put_purses(out: &mut [u8], at: usize, table: [Purse; 32], count: u8) -> usize
+pub(crate) fn put_purses(out: &mut [u8], at: usize, table: [Purse; 32], count: u8) -> usize
     requires { ⌜ (count ≤ 32) × (at + purseWidth * count ≤ length (now out)) ⌝ }
     ensures { λ r. ⌜ (r ≡ at + purseWidth * count) × (now (out .exit) ≡ put (now (out .entry)) at (flat purseBytes (take count table))) × (length (flat purseBytes (take count table)) ≡ purseWidth * count) ⌝ }
 {
@@ -32,7 +32,7 @@ pub fn put_purses(out: &mut [u8], at: usize, table: [Purse; 32], count: u8) -> u
     to
 }
 
-pub fn put_messages(out: &mut [u8], at: usize, e: Ether) -> usize
+pub(crate) fn put_messages(out: &mut [u8], at: usize, e: Ether) -> usize
     requires { ⌜ (e .count ≤ 256) × (at + messageWidth * e .count ≤ length (now out)) ⌝ }
     ensures { λ r. ⌜ (r ≡ at + messageWidth * e .count) × (now (out .exit) ≡ put (now (out .entry)) at (flat messageBytes (take (e .count) (e .places)))) × (length (flat messageBytes (take (e .count) (e .places))) ≡ messageWidth * e .count) ⌝ }
 {
@@ -47,7 +47,7 @@ pub fn put_messages(out: &mut [u8], at: usize, e: Ether) -> usize
     to
 }
 
-pub fn put_entries(out: &mut [u8], at: usize, e: Archive) -> usize
+pub(crate) fn put_entries(out: &mut [u8], at: usize, e: Archive) -> usize
     requires { ⌜ (e .count ≤ 256) × (at + entryWidth * e .count ≤ length (now out)) ⌝ }
     ensures { λ r. ⌜ (r ≡ at + entryWidth * e .count) × (now (out .exit) ≡ put (now (out .entry)) at (flat entryBytes (take (e .count) (e .places)))) × (length (flat entryBytes (take (e .count) (e .places))) ≡ entryWidth * e .count) ⌝ }
 {
@@ -63,7 +63,7 @@ pub fn put_entries(out: &mut [u8], at: usize, e: Archive) -> usize
 }
 
 // A well-formed bench, into a buffer that is long enough.
-pub fn put_bench(out: &mut [u8], held: Held) -> usize
+pub(crate) fn put_bench(out: &mut [u8], held: Held) -> usize
     requires { ⌜ (heldOk held ≡ true) × (length (imageOf held) ≤ length (now out)) ⌝ }
     ensures { λ r. ⌜ (r ≡ length (imageOf held)) × (now (out .exit) ≡ put (now (out .entry)) 0 (imageOf held)) ⌝ }
 {

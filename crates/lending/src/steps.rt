@@ -17,20 +17,20 @@ ghost use Rattle.bench.specs.Acts.{placeOf, actOn};
 ghost use Rattle.records.specs.Lent.{held};
 
 // The place of the record that an event names, below 32.
-pub fn place(event: &[u8]) -> usize
+pub(crate) fn place(event: &[u8]) -> usize
     ensures { λ r. ⌜ r ≡ placeOf (decoded (now (event .entry))) ⌝ }
 {
     place_of(decode(event))
 }
 
 // What an event does at that record.
-pub fn acted(p: Purse, desk: Desk, event: &[u8]) -> Acted
+pub(crate) fn acted(p: Purse, desk: Desk, event: &[u8]) -> Acted
     ensures { λ r. ⌜ r ≡ actOn p desk (decoded (now (event .entry))) ⌝ }
 {
     act(p, desk, decode(event))
 }
 
-pub fn opened(table: [Purse; 32], desk: Desk, balances: &[u32]) -> Answered
+pub(crate) fn opened(table: [Purse; 32], desk: Desk, balances: &[u32]) -> Answered
     ensures { λ r. ⌜ r ≡ heldOpening (held table desk) (now (balances .entry)) ⌝ }
 {
     let all = Held {
@@ -40,7 +40,7 @@ pub fn opened(table: [Purse; 32], desk: Desk, balances: &[u32]) -> Answered
     opening(all, balances)
 }
 
-pub fn owed(table: [Purse; 32], desk: Desk) -> Figure
+pub(crate) fn owed(table: [Purse; 32], desk: Desk) -> Figure
     ensures { λ r. ⌜ r ≡ heldClaims (held table desk) ⌝ }
 {
     let all = Held {

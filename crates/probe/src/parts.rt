@@ -10,17 +10,17 @@ ghost use Prim.Native.Nat.{_<_};
 ghost use mathlib.Core.Path.{_≡_};
 ghost use lib.ListN.{length};
 
-pub fn wide(x: u8) -> u32
+pub(crate) fn wide(x: u8) -> u32
     ensures { λ r. ⌜ (r ≡ x) × (r < 256) ⌝ }
 {
     x as u32
 }
 
-pub fn byte(s: &[u8], at: usize) -> u8 {
+pub(crate) fn byte(s: &[u8], at: usize) -> u8 {
     if at < s.len() { s[at] } else { 0 }
 }
 
-pub fn count(s: &[u8], at: usize) -> u16
+pub(crate) fn count(s: &[u8], at: usize) -> u16
     requires { ⌜ at < 100000 ⌝ }
 {
     let high = wide(byte(s, at));
@@ -28,7 +28,7 @@ pub fn count(s: &[u8], at: usize) -> u16
     (high * 256 + low) as u16
 }
 
-pub fn number(s: &[u8], at: usize) -> u32
+pub(crate) fn number(s: &[u8], at: usize) -> u32
     requires { ⌜ at < 100000 ⌝ }
 {
     let a = wide(byte(s, at));
@@ -38,7 +38,7 @@ pub fn number(s: &[u8], at: usize) -> u32
     a * 16777216 + b * 65536 + c * 256 + d
 }
 
-pub fn details(s: &[u8], at: usize) -> Details
+pub(crate) fn details(s: &[u8], at: usize) -> Details
     requires { ⌜ at < 90000 ⌝ }
 {
     let payer = Name(byte(s, at));
@@ -55,7 +55,7 @@ pub fn details(s: &[u8], at: usize) -> Details
     }
 }
 
-pub fn message(s: &[u8], at: usize) -> Message
+pub(crate) fn message(s: &[u8], at: usize) -> Message
     requires { ⌜ at < 80000 ⌝ }
 {
     let kind = byte(s, at);
@@ -63,7 +63,7 @@ pub fn message(s: &[u8], at: usize) -> Message
     Message { kind, details }
 }
 
-pub fn entry(s: &[u8], at: usize) -> Entry
+pub(crate) fn entry(s: &[u8], at: usize) -> Entry
     requires { ⌜ at < 80000 ⌝ }
 {
     let by = Name(byte(s, at));
@@ -71,7 +71,7 @@ pub fn entry(s: &[u8], at: usize) -> Entry
     Entry { by, details }
 }
 
-pub fn record(s: &[u8], at: usize) -> Purse
+pub(crate) fn record(s: &[u8], at: usize) -> Purse
     requires { ⌜ at < 80000 ⌝ }
 {
     let z = Details::zero();
@@ -97,7 +97,7 @@ pub fn record(s: &[u8], at: usize) -> Purse
     }
 }
 
-pub fn put_byte(out: &mut [u8], at: usize, v: u8)
+pub(crate) fn put_byte(out: &mut [u8], at: usize, v: u8)
     ensures { λ r. ⌜ length (now (out .exit)) ≡ length (now (out .entry)) ⌝ }
 {
     if at < out.len() {
@@ -105,7 +105,7 @@ pub fn put_byte(out: &mut [u8], at: usize, v: u8)
     }
 }
 
-pub fn put_count(out: &mut [u8], at: usize, v: u16)
+pub(crate) fn put_count(out: &mut [u8], at: usize, v: u16)
     requires { ⌜ at < 100000 ⌝ }
     ensures { λ r. ⌜ length (now (out .exit)) ≡ length (now (out .entry)) ⌝ }
 {
@@ -113,7 +113,7 @@ pub fn put_count(out: &mut [u8], at: usize, v: u16)
     put_byte(out, at + 1, (v % 256) as u8);
 }
 
-pub fn put_number(out: &mut [u8], at: usize, v: u32)
+pub(crate) fn put_number(out: &mut [u8], at: usize, v: u32)
     requires { ⌜ at < 100000 ⌝ }
     ensures { λ r. ⌜ length (now (out .exit)) ≡ length (now (out .entry)) ⌝ }
 {
@@ -123,7 +123,7 @@ pub fn put_number(out: &mut [u8], at: usize, v: u32)
     put_byte(out, at + 3, (v % 256) as u8);
 }
 
-pub fn put_details(out: &mut [u8], at: usize, d: Details)
+pub(crate) fn put_details(out: &mut [u8], at: usize, d: Details)
     requires { ⌜ at < 90000 ⌝ }
     ensures { λ r. ⌜ length (now (out .exit)) ≡ length (now (out .entry)) ⌝ }
 {
@@ -134,7 +134,7 @@ pub fn put_details(out: &mut [u8], at: usize, d: Details)
     put_number(out, at + 10, d.amount.0);
 }
 
-pub fn put_message(out: &mut [u8], at: usize, m: Message)
+pub(crate) fn put_message(out: &mut [u8], at: usize, m: Message)
     requires { ⌜ at < 80000 ⌝ }
     ensures { λ r. ⌜ length (now (out .exit)) ≡ length (now (out .entry)) ⌝ }
 {
@@ -143,7 +143,7 @@ pub fn put_message(out: &mut [u8], at: usize, m: Message)
     put_details(out, at + 1, details);
 }
 
-pub fn put_entry(out: &mut [u8], at: usize, e: Entry)
+pub(crate) fn put_entry(out: &mut [u8], at: usize, e: Entry)
     requires { ⌜ at < 80000 ⌝ }
     ensures { λ r. ⌜ length (now (out .exit)) ≡ length (now (out .entry)) ⌝ }
 {
@@ -152,7 +152,7 @@ pub fn put_entry(out: &mut [u8], at: usize, e: Entry)
     put_details(out, at + 1, details);
 }
 
-pub fn put_record(out: &mut [u8], at: usize, p: Purse)
+pub(crate) fn put_record(out: &mut [u8], at: usize, p: Purse)
     requires { ⌜ at < 80000 ⌝ }
     ensures { λ r. ⌜ length (now (out .exit)) ≡ length (now (out .entry)) ⌝ }
 {

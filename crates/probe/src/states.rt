@@ -57,7 +57,7 @@ fn archive(s: &[u8]) -> Archive {
 }
 
 // The state that bytes give.
-pub fn state(s: &[u8]) -> Held {
+pub(crate) fn state(s: &[u8]) -> Held {
     let purses = byte(s, 0);
     let ether = ether(s);
     let archive = archive(s);
@@ -100,7 +100,7 @@ fn put_archive(out: &mut [u8], a: Archive) {
 }
 
 // The bytes of a state.
-pub fn put_state(out: &mut [u8], held: Held) {
+pub(crate) fn put_state(out: &mut [u8], held: Held) {
     let table = held.table;
     let desk = held.desk;
     let ether = desk.ether;

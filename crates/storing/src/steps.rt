@@ -10,7 +10,7 @@ ghost use mathlib.Core.Path.{_≡_};
 ghost use Rattle.layout.specs.Calls.{heldWrite, heldBuffer, heldRead};
 ghost use Rattle.records.specs.Lent.{held};
 
-pub fn written(table: [Purse; 32], desk: Desk, out: &mut [u8]) -> Written
+pub(crate) fn written(table: [Purse; 32], desk: Desk, out: &mut [u8]) -> Written
     ensures { λ r.
         ⌜ (r ≡ heldWrite (held table desk) (now (out .entry)))
         × (now (out .exit) ≡ heldBuffer (held table desk) (now (out .entry))) ⌝ }
@@ -22,7 +22,7 @@ pub fn written(table: [Purse; 32], desk: Desk, out: &mut [u8]) -> Written
     write(all, out)
 }
 
-pub fn read_in(table: [Purse; 32], desk: Desk, bytes: &[u8]) -> Answered
+pub(crate) fn read_in(table: [Purse; 32], desk: Desk, bytes: &[u8]) -> Answered
     ensures { λ r. ⌜ r ≡ heldRead (held table desk) (now (bytes .entry)) ⌝ }
 {
     let all = Held {

@@ -70,7 +70,7 @@ fn no_two_equal(a: Archive) -> bool
     true
 }
 
-pub fn archive_alone(a: Archive, purses: u8) -> bool
+pub(crate) fn archive_alone(a: Archive, purses: u8) -> bool
     ensures { λ r. ⌜ r ≡ archiveAlone purses a ⌝ }
 {
     (a.count <= 256) & unused_zero(a) & each_alone(a, purses) & no_two_equal(a)
@@ -88,7 +88,7 @@ fn entry_beside(p: Purse, own: Name, e: Entry) -> bool
     }
 }
 
-pub fn each_beside(a: Archive, p: Purse, own: Name) -> bool
+pub(crate) fn each_beside(a: Archive, p: Purse, own: Name) -> bool
     ensures { λ r. ⌜ r ≡ all (entryBeside (own .0) p) (collected a) ⌝ }
 {
     let count = at_most(a.count as usize, 256);

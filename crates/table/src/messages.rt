@@ -70,7 +70,7 @@ fn no_two_equal(e: Ether) -> bool
     true
 }
 
-pub fn ether_alone(e: Ether, purses: u8) -> bool
+pub(crate) fn ether_alone(e: Ether, purses: u8) -> bool
     ensures { λ r. ⌜ r ≡ etherAlone purses e ⌝ }
 {
     (e.count <= 256) & unused_zero(e) & each_alone(e, purses) & no_two_equal(e)
@@ -122,7 +122,7 @@ fn message_beside(p: Purse, own: Name, m: Message) -> bool
     to_purse(p, own, m) & from_purse(p, own, m)
 }
 
-pub fn each_beside(e: Ether, p: Purse, own: Name) -> bool
+pub(crate) fn each_beside(e: Ether, p: Purse, own: Name) -> bool
     ensures { λ r. ⌜ r ≡ all (messageBeside (own .0) p) (standing e) ⌝ }
 {
     let count = at_most(e.count as usize, 256);

@@ -5,14 +5,14 @@ ghost use Prim.Native.Nat.{min};
 ghost use Rattle.table.specs.Records.{within};
 
 // The count, or all the places where it is larger.
-pub fn at_most(count: usize, many: usize) -> usize
+pub(crate) fn at_most(count: usize, many: usize) -> usize
     ensures { λ r. ⌜ r ≡ min count many ⌝ }
 {
     if many < count { many } else { count }
 }
 
 // Whether both names are below the purse count.
-pub fn is_within(d: Details, purses: u8) -> bool
+pub(crate) fn is_within(d: Details, purses: u8) -> bool
     ensures { λ r. ⌜ r ≡ within purses d ⌝ }
 {
     (d.payer.0 < purses) & (d.payee.0 < purses)

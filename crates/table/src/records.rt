@@ -8,7 +8,7 @@ ghost use Rattle.rules.specs.Laid.{isZeroPurse};
 ghost use Rattle.table.specs.Records.{namesOk, holds};
 
 // Whether running details and log entries name purses of the table.
-pub fn names_ok(p: Purse, purses: u8) -> bool
+pub(crate) fn names_ok(p: Purse, purses: u8) -> bool
     ensures { λ r. ⌜ r ≡ namesOk purses p ⌝ }
 {
     let count = at_most(p.logged as usize, 8);
@@ -23,7 +23,7 @@ pub fn names_ok(p: Purse, purses: u8) -> bool
 }
 
 // Whether the details are running or in the log.
-pub fn holds(p: Purse, d: Details) -> bool
+pub(crate) fn holds(p: Purse, d: Details) -> bool
     ensures { λ r. ⌜ r ≡ holds p d ⌝ }
 {
     let count = at_most(p.logged as usize, 8);
@@ -38,7 +38,7 @@ pub fn holds(p: Purse, d: Details) -> bool
 }
 
 // Whether each place of the record is zero.
-pub fn is_zero(p: Purse) -> bool
+pub(crate) fn is_zero(p: Purse) -> bool
     ensures { λ r. ⌜ r ≡ isZeroPurse p ⌝ }
 {
     let zero = Details::zero();
