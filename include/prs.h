@@ -104,4 +104,14 @@ typedef struct {
 prs_written image_write(const prs_purse *table, size_t records, prs_desk desk, uint8_t *out, size_t length);
 prs_reply image_read(prs_purse *table, size_t records, prs_desk desk, const uint8_t *bytes, size_t length);
 
+/* ---- the same with the desk lent too (liblending.a; prs_write and prs_read: libstoring.a). A `*` that is not const is written through. Answers as above. */
+
+uint8_t prs_opening(prs_purse *table, size_t records, prs_desk *desk, const uint32_t *balances, size_t count);
+uint8_t prs_event(prs_purse *table, size_t records, prs_desk *desk, const uint8_t *event, size_t length);
+prs_figure prs_claims(const prs_purse *table, size_t records, const prs_desk *desk);
+/* the whole events of the list, as many as there are places; how many were taken */
+size_t prs_run(prs_purse *table, size_t records, prs_desk *desk, const uint8_t *list, size_t length, uint8_t *answers, size_t places);
+prs_written prs_write(const prs_purse *table, size_t records, const prs_desk *desk, uint8_t *out, size_t length);
+uint8_t prs_read(prs_purse *table, size_t records, prs_desk *desk, const uint8_t *bytes, size_t length);
+
 #endif

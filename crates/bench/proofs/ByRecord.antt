@@ -22,7 +22,8 @@ use Rattle.purse.specs.Lists.{padded, without}
 use Rattle.purse.specs.Tests.{first}
 use Rattle.purse.specs.Details.{zeroMessage}
 use Rattle.purse.specs.Purse.{zeroPurse}
-use Rattle.purse.specs.Card.{stepBy}
+use Rattle.refusals.specs.Act.{actBy}
+use Rattle.refusals.proofs.Act.{step-act}
 use Rattle.purse.proofs.Bools.{which}
 use Rattle.purse.proofs.Padded.{set-padded, push-padded, pull-padded, read-padded}
 use Rattle.desk.specs.declared.Entry.{Entry}
@@ -116,10 +117,15 @@ module _ (b : Bench) (t : Table b) (own : Name) where
         (λ (k : eqb (a .answer) 0 ≡ false). rw k (stays (laid b) (a .answer) (placeIn own)))
         (which (eqb (a .answer) 0))
 
-    told-laid : (e : CardEvent) → shown (carried b (own .0) (told b (own .0) e)) ≡ putBack (laid b) (placeIn own) (settled here (laid b .desk) (toCarry (stepBy here own e)))
+    -- what the card is told at a record of the table, which is well formed
+    told-act : (e : CardEvent) → told b (own .0) e ≡ actBy here own e
+    told-act e =
+        step-act own (purseAt b (own .0)) (t .well (own .0) h) e ∙ ap (λ (p : Purse). actBy p own e) (sym found)
+
+    told-laid : (e : CardEvent) → shown (carried b (own .0) (told b (own .0) e)) ≡ putBack (laid b) (placeIn own) (settled here (laid b .desk) (toCarry (actBy here own e)))
     told-laid e =
         carried-laid (told b (own .0) e)
-        ∙ ap (λ (p : Purse). putBack (laid b) (placeIn own) (settled here (laid b .desk) (toCarry (stepBy p own e)))) (sym found)
+        ∙ ap (λ (a : CardAnswer). putBack (laid b) (placeIn own) (settled here (laid b .desk) (toCarry a))) (told-act e)
 
     archived-laid : (a : CardAnswer) → shown (archiving b (own .0) a) ≡ putBack (laid b) (placeIn own) (settled here (laid b .desk) (toArchive (length (b .archive)) own a))
     unfolding settled carriedOut stored
@@ -149,10 +155,10 @@ module _ (b : Bench) (t : Table b) (own : Name) where
         (λ (k : eqb (a .answer) 0 ≡ false). rw (k, k) (stays (laid b) (a .answer) (placeIn own)))
         (which (eqb (a .answer) 0))
 
-    collected-laid : shown (archiving b (own .0) (told b (own .0) card.Collect)) ≡ putBack (laid b) (placeIn own) (settled here (laid b .desk) (toArchive (length (b .archive)) own (stepBy here own card.Collect)))
+    collected-laid : shown (archiving b (own .0) (told b (own .0) card.Collect)) ≡ putBack (laid b) (placeIn own) (settled here (laid b .desk) (toArchive (length (b .archive)) own (actBy here own card.Collect)))
     collected-laid =
         archived-laid (told b (own .0) card.Collect)
-        ∙ ap (λ (p : Purse). putBack (laid b) (placeIn own) (settled here (laid b .desk) (toArchive (length (b .archive)) own (stepBy p own card.Collect)))) (sym found)
+        ∙ ap (λ (a : CardAnswer). putBack (laid b) (placeIn own) (settled here (laid b .desk) (toArchive (length (b .archive)) own a))) (told-act card.Collect)
 
   starts : (other : Name) (e : CardEvent) → shown (starting b (own .0) (other .0) e) ≡ putBack (laid b) (placeIn own) (settled here (laid b .desk) (toTell (first (startTests (length (b .purses)) own other)) here own e))
   unfolding settled toTell

@@ -15,7 +15,7 @@ use Rattle.purse.specs.declared.CardEvent.the-variants as card
 use Rattle.purse.specs.Tests.{Test, _⇒_, first, after}
 use Rattle.purse.specs.Details.{lastName, zeroMessage}
 use Rattle.purse.specs.Purse.{zeroPurse}
-use Rattle.purse.specs.Card.{stepBy}
+use Rattle.refusals.specs.Act.{actBy}
 use Rattle.desk.specs.declared.Ether.{Ether}
 use Rattle.desk.specs.declared.Archive.{Archive}
 use Rattle.desk.specs.declared.Desk.{Desk}
@@ -102,7 +102,7 @@ toCarry a = record { answer = a .answer; purse = a .purse; change = toSend (a .m
 
 -- the card is told e, where no test before found a number
 unfoldable pub toTell : ℕ → Purse → Name → CardEvent → Chosen
-toTell n p own e = cond (eqb n 0) (toCarry (stepBy p own e)) (refusedAs n p)
+toTell n p own e = cond (eqb n 0) (toCarry (actBy p own e)) (refusedAs n p)
 
 -- the entry that the card gave out "is appended to the archive"; 15 where it is full, after the card's 14
 abbrev pub toArchive : ℕ → Name → CardAnswer → Chosen
@@ -115,7 +115,7 @@ toArchive entries own a =
 
 -- the card is told to collect, likewise
 unfoldable pub toCollect : ℕ → Purse → ℕ → Name → Chosen
-toCollect n p entries own = cond (eqb n 0) (toArchive entries own (stepBy p own card.Collect)) (refusedAs n p)
+toCollect n p entries own = cond (eqb n 0) (toArchive entries own (actBy p own card.Collect)) (refusedAs n p)
 
 -- what an event chooses at its record p and what is seen of the desk
 unfoldable pub chosen : Purse → Seen → Event → Chosen

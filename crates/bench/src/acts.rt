@@ -128,7 +128,7 @@ fn tell(n: u8, p: Purse, own: Name, event: CardEvent) -> Chosen
     ensures { λ r. ⌜ r ≡ toTell n p own event ⌝ }
 {
     if n == 0 {
-        let a = card::step(p, own, event);
+        let a = card::act(p, own, event);
         let q = a.purse;
         let m = a.message;
         let change = sending(m);
@@ -169,7 +169,7 @@ fn collect(n: u8, p: Purse, entries: u16, own: Name) -> Chosen
     ensures { λ r. ⌜ r ≡ toCollect n p entries own ⌝ }
 {
     if n == 0 {
-        let a = card::step(p, own, CardEvent::Collect);
+        let a = card::act(p, own, CardEvent::Collect);
         archive(entries, own, a)
     } else {
         Chosen {

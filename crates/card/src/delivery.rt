@@ -12,7 +12,8 @@ use refusals::numbers::deliver_number;
 ghost use mathlib.Core.Path.{_≡_};
 ghost use Prim.Native.Nat.{_+_, _≤_};
 ghost use Rattle.purse.specs.Purse.{ceiling};
-ghost use Rattle.purse.specs.Step.{paid, received, settled, deliverTo};
+ghost use Rattle.purse.specs.Step.{paid, received, settled};
+ghost use Rattle.refusals.specs.Act.{actDeliver};
 
 // A request: the balance falls, and the value is sent.
 fn pay(p: Purse) -> CardAnswer
@@ -54,7 +55,7 @@ fn settle(p: Purse) -> CardAnswer
 
 // The purse gets a message; one that it does not wait for is refused.
 pub(crate) fn deliver(p: Purse, own: Name, m: Message) -> CardAnswer
-    ensures { λ r. ⌜ r ≡ deliverTo p own m ⌝ }
+    ensures { λ r. ⌜ r ≡ actDeliver p own m ⌝ }
 {
     let n = deliver_number(p, own, m);
     if n == 0 {

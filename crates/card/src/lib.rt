@@ -9,12 +9,25 @@ use purse::CardAnswer;
 use purse::CardEvent;
 use purse::Name;
 use purse::Purse;
+use refusals::form::well_formed;
 ghost use mathlib.Core.Path.{_≡_};
 ghost use Rattle.purse.specs.Card.{stepBy};
+ghost use Rattle.refusals.specs.Act.{actBy};
 
-// The card's whole step, on its record by value.
+// The card's whole step, on its record by value: the record is tested first.
 pub fn step(purse: Purse, own: Name, event: CardEvent) -> CardAnswer
     ensures { λ r. ⌜ r ≡ stepBy purse own event ⌝ }
+{
+    if well_formed(purse, own) {
+        act(purse, own, event)
+    } else {
+        answers::refused(purse, 2)
+    }
+}
+
+// The step behind that test, for whoever knows that the record is well formed. On another record it is some answer too (`actBy`).
+pub fn act(purse: Purse, own: Name, event: CardEvent) -> CardAnswer
+    ensures { λ r. ⌜ r ≡ actBy purse own event ⌝ }
 {
     match event {
         CardEvent::StartFrom { other, seq, amount } => {

@@ -14,7 +14,8 @@ ghost use mathlib.Core.Path.{_≡_};
 ghost use Prim.Native.Nat.{_<_};
 ghost use lib.ListN.{getD};
 ghost use Rattle.purse.specs.Details.{zeroDetails};
-ghost use Rattle.purse.specs.Step.{stopped, aborted, movedDown, taken, abortBy, collectBy};
+ghost use Rattle.purse.specs.Step.{stopped, aborted, movedDown, taken};
+ghost use Rattle.refusals.specs.Act.{actAbort, actCollect};
 
 // The details at the end of the log, and the purse idle.
 fn stop(p: Purse) -> Purse
@@ -44,7 +45,7 @@ fn quit(p: Purse) -> Purse
 
 // A purse that is stopped: idle again, whatever it was busy with.
 pub(crate) fn abort(p: Purse, own: Name) -> CardAnswer
-    ensures { λ r. ⌜ r ≡ abortBy p own ⌝ }
+    ensures { λ r. ⌜ r ≡ actAbort p own ⌝ }
 {
     let n = abort_number(p, own);
     if n == 0 {
@@ -84,7 +85,7 @@ fn take_oldest(p: Purse) -> Purse
 
 // The oldest log entry leaves the purse and is handed out.
 pub(crate) fn collect(p: Purse, own: Name) -> CardAnswer
-    ensures { λ r. ⌜ r ≡ collectBy p own ⌝ }
+    ensures { λ r. ⌜ r ≡ actCollect p own ⌝ }
 {
     let n = collect_number(p, own);
     if n == 0 {

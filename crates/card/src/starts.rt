@@ -14,7 +14,8 @@ use refusals::numbers::to_number;
 ghost use mathlib.Core.Path.{_≡_};
 ghost use Rattle.purse.specs.Details.{zeroDetails, request};
 ghost use Rattle.purse.specs.Purse.{epv};
-ghost use Rattle.purse.specs.Step.{done, begunWith, fromDetails, toDetails, startFrom, startTo};
+ghost use Rattle.purse.specs.Step.{done, begunWith, fromDetails, toDetails};
+ghost use Rattle.refusals.specs.Act.{actFrom, actTo};
 
 // Busy with a transfer of the purse's next number, which grows by 1.
 fn begun(p: Purse, status: u8, d: Details) -> Purse
@@ -71,7 +72,7 @@ fn asks(p: Purse, d: Details) -> CardAnswer
 
 // The purse becomes payer; it waits for the request.
 pub(crate) fn start_from(p: Purse, own: Name, other: Name, seq: Seq, amount: Amount) -> CardAnswer
-    ensures { λ r. ⌜ r ≡ startFrom p own other seq amount ⌝ }
+    ensures { λ r. ⌜ r ≡ actFrom p own other seq amount ⌝ }
 {
     let n = from_number(p, own, other, amount);
     if n == 0 {
@@ -83,7 +84,7 @@ pub(crate) fn start_from(p: Purse, own: Name, other: Name, seq: Seq, amount: Amo
 
 // The purse becomes payee; it sends the request and waits for the value.
 pub(crate) fn start_to(p: Purse, own: Name, other: Name, seq: Seq, amount: Amount) -> CardAnswer
-    ensures { λ r. ⌜ r ≡ startTo p own other seq amount ⌝ }
+    ensures { λ r. ⌜ r ≡ actTo p own other seq amount ⌝ }
 {
     let n = to_number(p, own, other, amount);
     if n == 0 {

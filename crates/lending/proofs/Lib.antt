@@ -1,3 +1,4 @@
 mod Structs
 mod Calls
+mod Runs
 pub mod Unique

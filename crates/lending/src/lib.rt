@@ -8,11 +8,16 @@ use records::copied;
 use records::replaced;
 use records::table_ok;
 use steps::acted;
+use steps::kept;
 use steps::opened;
 use steps::owed;
 use steps::place;
+use steps::ran;
 ghost use mathlib.Core.Path.{_≡_};
-ghost use Rattle.rules.specs.Laid.{heldStep, heldOpening, heldClaims};
+ghost use mathlib.Core.List.{_++_};
+ghost use lib.ListN.{drop};
+ghost use Rattle.rules.specs.Laid.{heldStep, heldOpening, heldClaims, heldRun, heldAnswers};
+ghost use Rattle.bench.specs.Runs.{pieces, taken};
 ghost use Rattle.records.specs.Lent.{held, replyOf};
 
 mod steps; // steps.rt: the bench's steps by value, as the entries call them
@@ -57,4 +62,68 @@ pub extern "C" fn bench_claims(table: &[Purse], desk: Desk) -> Figure
     ensures { λ r. ⌜ r ≡ heldClaims (held (now (table .entry)) desk) ⌝ }
 {
     owed(copied(table), desk)
+}
+
+// An event, over a table and a desk that are both lent.
+#[no_mangle]
+pub extern "C" fn prs_event(table: &mut [Purse], desk: &mut Desk, event: &[u8]) -> u8
+    ensures { λ r.
+        ⌜ (r ≡ heldStep (held (now (table .entry)) (now (desk .entry))) (now (event .entry)) .answer)
+        × (now (table .exit) ≡ heldStep (held (now (table .entry)) (now (desk .entry))) (now (event .entry)) .held .table)
+        × (now (desk .exit) ≡ heldStep (held (now (table .entry)) (now (desk .entry))) (now (event .entry)) .held .desk) ⌝ }
+{
+    let d = *desk;
+    if !table_ok(table, d) {
+        return 2;
+    }
+    let at = place(event);
+    let done = acted(table[at], d, event);
+    table[at] = done.purse;
+    *desk = done.desk;
+    done.answer
+}
+
+// The claims figure, over a table and a desk that are both lent.
+#[no_mangle]
+pub extern "C" fn prs_claims(table: &[Purse], desk: &Desk) -> Figure
+    ensures { λ r. ⌜ r ≡ heldClaims (held (now (table .entry)) (now (desk .entry))) ⌝ }
+{
+    owed(copied(table), *desk)
+}
+
+// A bench opened with these balances, over a table and a desk that are both lent.
+#[no_mangle]
+pub extern "C" fn prs_opening(table: &mut [Purse], desk: &mut Desk, balances: &[u32]) -> u8
+    ensures { λ r.
+        ⌜ (r ≡ heldOpening (held (now (table .entry)) (now (desk .entry))) (now (balances .entry)) .answer)
+        × (now (table .exit) ≡ heldOpening (held (now (table .entry)) (now (desk .entry))) (now (balances .entry)) .held .table)
+        × (now (desk .exit) ≡ heldOpening (held (now (table .entry)) (now (desk .entry))) (now (balances .entry)) .held .desk) ⌝ }
+{
+    let d = *desk;
+    let by = opened(copied(table), d, balances);
+    let left = replaced(table, d, by);
+    *desk = left.desk;
+    left.answer
+}
+
+// The whole events of a list, as many as there are places for answers, over a table and a desk that are both lent; how many were taken.
+#[no_mangle]
+pub extern "C" fn prs_run(
+    table: &mut [Purse],
+    desk: &mut Desk,
+    list: &[u8],
+    answers: &mut [u8],
+) -> usize
+    ensures { λ r.
+        ⌜ (r ≡ taken (now (list .entry)) (now (answers .entry)))
+        × (now (table .exit) ≡ heldRun (held (now (table .entry)) (now (desk .entry))) (pieces (taken (now (list .entry)) (now (answers .entry))) (now (list .entry))) .table)
+        × (now (desk .exit) ≡ heldRun (held (now (table .entry)) (now (desk .entry))) (pieces (taken (now (list .entry)) (now (answers .entry))) (now (list .entry))) .desk)
+        × (now (answers .exit) ≡ heldAnswers (held (now (table .entry)) (now (desk .entry))) (pieces (taken (now (list .entry)) (now (answers .entry))) (now (list .entry)))
+        ++ drop (taken (now (list .entry)) (now (answers .entry))) (now (answers .entry))) ⌝ }
+{
+    let d = *desk;
+    let by = ran(copied(table), d, list, answers);
+    let left = replaced(table, d, kept(by));
+    *desk = left.desk;
+    by.taken
 }

@@ -12,7 +12,7 @@ use mir.Syntax.{Ty, Lifetime, Opd as Operand, Body, skip, seq, assign, block, lo
 use mir.Raw.{raw as rawTy}
 use mir.Val.{Val, vptr, vbool}
 use base.Logic.{sep, ex, emp, via, comm∗, emp∗, id⊢}
-use base.Fml.{Lft, GName, Share, Fml, fsep, fat, fdies, flft, flent, fobs, fauth, fobor}
+use base.Fml.{Lft, GName, Share, Fml, fsep, fat, fdies, flft, flent, fobs, fauth, fobor, fres, fshr-bor}
 use prog.Wp.{Heap, Env, Calls, Loops, Wp, exits, afterSeq}
 use ghost.Atoms.{Atoms, sem}
 use contract.Monad.{fact}
@@ -23,16 +23,16 @@ use types.Tokens.{lft-new, lft-end, lent-back}
 use types.SemTy.{Body as BorBody}
 use denote.RattleType.{RattleType}
 use denote.Shadow.{pureI}
-use denote.Laws.{Is, shows, Tells, Makes}
+use denote.Laws.{Is, shows, Tells, Makes, Copy}
 use denote.Memory.{mem, cellAt, shares, partOf, partAt}
-use denote.Ref.{MutRef}
+use denote.Ref.{MutRef, ShrRef}
 use denote.Slice.{sliceVal, MutSlice, ShrSlice, heres, Room, at-slice, codedHoleys}
 use denote.Array.{Array, array-vals, array-tells, array-makes}
 use denote.ArrayMemory.{Single, array-apart, array-whole}
 use denote.Lend.{Held, lends-shr-slice}
 use denote.Index as ix
 use denote.Index.{others, row, opens-slice, closes-slice, elem-put}
-use denote.Steps.{opens, closes, owned, facts, heard}
+use denote.Steps.{opens, closes, looks, shuts, owned, facts, heard}
 use denote.Struct.Steps.{spelt}
 
 -- ---- tests: what a branch learns, as an equation
@@ -79,6 +79,10 @@ place-is s o i = ix.place-is s o i
 abbrev pub OpenRef : (R : RattleType) → Lft → Share → GName → ℕ → ℕ → R .Denot → Fml
 OpenRef R κ q γ b o h = fsep (fobor κ q (BorBody (mem R) b o γ)) (fsep (fobs γ (R .coded .code h)) (fauth γ (R .coded .code h)))
 
+-- a `&T` that is looked into, at a share q′ of its cell: what closes it, beside that share
+abbrev pub LookedRef : (R : RattleType) → Lft → Share → Share → GName → ℕ → ℕ → R .Denot → Fml
+LookedRef R κ q q′ γ b o h = fsep (fobor κ q (partAt R q′ h b o)) (fsep (fres γ (R .coded .code h)) (fshr-bor κ (λ s. partAt R s h b o)))
+
 -- the same of a slice, whose elements lie open
 abbrev pub OpenSlice : (R : RattleType) → Lft → Share → GName → ℕ → ℕ → List (R .Denot) → Fml
 OpenSlice R κ q γ b o ys = fsep (fobor κ q (Held R (length ys) b o γ)) (fsep (fobs γ (codedHoleys R .code (heres R ys))) (fauth γ (codedHoleys R .code (heres R ys))))
@@ -121,6 +125,21 @@ module _ {M : Type 1} {𝓤 : URA M} {H : Heap 𝓤} {A : Atoms 𝓤} {K : Type 
         → Step K W (‵ (MutRef ℓ κ R .own (record { ptr = (b, o); name = γ; now = h′ }) (vptr b o ∷ [])) ∷ ‵ (flft κ q) ∷ Γ) G (‵ (cellAt fullShare (R .mir) vs b o) ∷ ‵ (OpenRef R κ q γ b o h) ∷ Γ) G
     shuts-ref t z R ℓ mk h h′ vs b o is = step (λ s. move t (1 ∷ []) $ fsplit3 t $ move t (3 ∷ []) $ owned t R (Is R) mk h′ vs is $ move t (1 ∷ 0 ∷ []) $
         closes t z R h′ vs b o $ feqI t (List Val) (vptr b o ∷ []) (vptr b o ∷ []) refl $ fjoin3 t $ s)
+
+    -- what a `&T` owns and the token, for a share of the cell and what closes the borrow. T is Copy
+    pub looks-ref : K → Soaks G → (R : RattleType) (ℓ : Lifetime) (vals : R .Denot → List Val) → Tells R (Is R) vals → Copy 𝓤 H A R → {κ : Lft} {q : Share} {γ : GName} (h : R .Denot) (b o : ℕ)
+        → ((q′ : Share) → Is R h (vals h) → Seq K W (‵ (cellAt q′ (R .mir) (vals h) b o) ∷ ‵ (LookedRef R κ q q′ γ b o h) ∷ Γ) G)
+        → Seq K W (‵ (ShrRef ℓ κ R .own (record { ptr = (b, o); name = γ; now = h }) (vptr b o ∷ [])) ∷ ‵ (flft κ q) ∷ Γ) G
+    looks-ref t z R ℓ vals tl cp h b o k =
+        fsplit3 t $ drop t $ move t (1 ∷ 2 ∷ []) $ looks t z R (Is R) (shows 𝓤 H A R) vals tl cp h b o (λ q′ vs. spelt t R (Is R) (shows 𝓤 H A R) vals tl q′ h vs b o $ move t (1 ∷ []) $ facts t R (Is R) (shows 𝓤 H A R) h (vals h) (λ p.
+        -- [the share of the cell; the open borrow of that share; the shared borrow; res]
+        move t (1 ∷ 3 ∷ 2 ∷ []) $ fjoin3 t $ move t (1 ∷ 0 ∷ []) $ k q′ p))
+
+    -- the other way
+    pub shuts-looked : K → Soaks G → (R : RattleType) (ℓ : Lifetime) → Makes 𝓤 H A R (Is R) → {κ : Lft} {q : Share} {γ : GName} (q′ : Share) (h : R .Denot) (vs : List Val) (b o : ℕ) → Is R h vs
+        → Step K W (‵ (ShrRef ℓ κ R .own (record { ptr = (b, o); name = γ; now = h }) (vptr b o ∷ [])) ∷ ‵ (flft κ q) ∷ Γ) G (‵ (cellAt q′ (R .mir) vs b o) ∷ ‵ (LookedRef R κ q q′ γ b o h) ∷ Γ) G
+    shuts-looked t z R ℓ mk q′ h vs b o is = step (λ s. move t (1 ∷ []) $ fsplit3 t $ move t (3 ∷ []) $ owned t R (Is R) mk h vs is $ move t (1 ∷ 0 ∷ []) $ shuts t z R q′ h vs b o $
+        feqI t (List Val) (vptr b o ∷ []) (vptr b o ∷ []) refl $ move t (0 ∷ 2 ∷ 3 ∷ []) $ fjoin3 t $ s)
 
     -- a `&mut [T]` and the token, for its elements side by side and what closes the borrow
     pub opens-row : K → Soaks G → (R : RattleType) (ℓ : Lifetime) {κ : Lft} {q : Share} {γ : GName} (ys : List (R .Denot)) (b o : ℕ)

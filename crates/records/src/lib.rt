@@ -2,9 +2,9 @@
 // lent to each call."
 use desk::Answered;
 use desk::Desk;
+use desk::Held;
 use purse::Purse;
-use table::desk_ok;
-use table::record_ok;
+use table::held_ok;
 ghost use mathlib.Core.Path.{_≡_};
 ghost use lib.ListN.{replicate};
 ghost use Rattle.purse.specs.Purse.{zeroPurse};
@@ -16,22 +16,6 @@ ghost use Rattle.records.specs.Lent.{held, copiedOf, replacedOf};
 pub struct Reply {
     pub answer: u8,
     pub desk: Desk,
-}
-
-// Whether a lent table and a desk obey the rules: 32 records, the desk alone, then each record beside the desk.
-pub fn table_ok(table: &[Purse], desk: Desk) -> bool
-    ensures { λ r. ⌜ r ≡ heldOk (held (now (table .entry)) desk) ⌝ }
-{
-    if table.len() != 32 {
-        return false;
-    }
-    let mut ok = desk_ok(desk);
-    let mut at = 0;
-    while at < 32 {
-        ok = ok & record_ok(table[at], at, desk);
-        at = at + 1;
-    }
-    ok
 }
 
 // A table of unused records.
@@ -56,6 +40,25 @@ pub fn copied(table: &[Purse]) -> [Purse; 32]
         i = i + 1;
     }
     all
+}
+
+// Whether a table and a desk obey the rules, by value.
+fn all_ok(table: [Purse; 32], desk: Desk) -> bool
+    ensures { λ r. ⌜ r ≡ heldOk (held table desk) ⌝ }
+{
+    let all = Held {
+        table: table,
+        desk: desk,
+    };
+    held_ok(all)
+}
+
+// Whether a lent table and a desk obey the rules: the records are copied out, and tested with the desk. Another length than 32 is copied as a
+// table of unused records, which breaks them.
+pub fn table_ok(table: &[Purse], desk: Desk) -> bool
+    ensures { λ r. ⌜ r ≡ heldOk (held (now (table .entry)) desk) ⌝ }
+{
+    all_ok(copied(table), desk)
 }
 
 // The table of what was answered.

@@ -92,9 +92,11 @@ fn is_place_ok(p: Purse, own: Name, i: usize) -> bool
     let log = p.log;
     let e = log[i];
     let n = p.logged as usize;
-    let used = (i < n) & is_entry(e, own, p.next) & !p.details.same(e) & is_absent(log, i, e);
-    let unused = (n <= i) & e.same(Details::zero());
-    used | unused
+    if i < n {
+        is_entry(e, own, p.next) & !p.details.same(e) & is_absent(log, i, e)
+    } else {
+        e.same(Details::zero())
+    }
 }
 
 fn is_log_ok(p: Purse, own: Name) -> bool

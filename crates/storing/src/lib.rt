@@ -33,3 +33,28 @@ pub extern "C" fn image_read(table: &mut [Purse], desk: Desk, bytes: &[u8]) -> R
     let by = read_in(copied(table), desk, bytes);
     replaced(table, desk, by)
 }
+
+// The image of the bench, at the start of a buffer, over a table and a desk that are both lent.
+#[no_mangle]
+pub extern "C" fn prs_write(table: &[Purse], desk: &Desk, out: &mut [u8]) -> Written
+    ensures { λ r.
+        ⌜ (r ≡ heldWrite (held (now (table .entry)) (now (desk .entry))) (now (out .entry)))
+        × (now (out .exit) ≡ heldBuffer (held (now (table .entry)) (now (desk .entry))) (now (out .entry))) ⌝ }
+{
+    written(copied(table), *desk, out)
+}
+
+// The bench that an image gives, over a table and a desk that are both lent.
+#[no_mangle]
+pub extern "C" fn prs_read(table: &mut [Purse], desk: &mut Desk, bytes: &[u8]) -> u8
+    ensures { λ r.
+        ⌜ (r ≡ heldRead (held (now (table .entry)) (now (desk .entry))) (now (bytes .entry)) .answer)
+        × (now (table .exit) ≡ heldRead (held (now (table .entry)) (now (desk .entry))) (now (bytes .entry)) .held .table)
+        × (now (desk .exit) ≡ heldRead (held (now (table .entry)) (now (desk .entry))) (now (bytes .entry)) .held .desk) ⌝ }
+{
+    let d = *desk;
+    let by = read_in(copied(table), d, bytes);
+    let left = replaced(table, d, by);
+    *desk = left.desk;
+    left.answer
+}

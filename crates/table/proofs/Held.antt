@@ -1,8 +1,8 @@
--- A table and desk obey the rules just where the desk alone does and each of the 32 records does beside it. Both ways: the rules of
--- the whole are taken apart, each message and entry is asked only by the records that it names (Beside), and the details that a purse
--- has are apart by its own record, by the archive alone, and by the archive beside the record (Once).
+-- A table and desk obey the rules just where each record does alone, and each message and each entry does beside the records that it names.
+-- Both ways: the rules of the whole are taken apart, a name looks up the bench's purse (`at-name`), and the details that a purse has are
+-- apart by its own record, by the archive alone, and by the archive beside the records (Once).
 -- Assumes nothing.
-use Prim.Native.Nat.{ℕ, _+_, _-_, _≤_, _<_}
+use Prim.Native.Nat.{ℕ, _+_, _-_, _≤_, _<_, _%_}
 use mathlib.Core.Path.{_≡_, refl, sym, _∙_, ap}
 use mathlib.Core.Bool.{Bool, true, false, _&&_, not}
 use mathlib.Core.Logic.{⊎-elim}
@@ -12,6 +12,7 @@ use lib.Seq.{length-take-le, getD-take, getD-drop}
 use lib.Dec.{ltb, leb, eqb}
 use native.Mathlib.Omega.{arith}
 use borrow.Author.Tests.{leb-true, le-leb, ltb-true, ltb-false, lt-ltb, le-ltb, eqb-true, eq-eqb}
+use Rattle.purse.specs.declared.Name.{Name}
 use Rattle.purse.specs.declared.Details.{Details}
 use Rattle.purse.specs.declared.Message.{Message}
 use Rattle.purse.specs.declared.Purse.{Purse}
@@ -21,7 +22,6 @@ use Rattle.purse.specs.Purse.{zeroPurse, wellFormed}
 use Rattle.purse.proofs.Bools.{and-l, and-r, and-i, which, together}
 use Rattle.purse.proofs.Lists.{every-at, every-all, all-at, all-places, all-each, all-both}
 use Rattle.desk.specs.declared.Entry.{Entry}
-use Rattle.desk.specs.declared.Desk.{Desk}
 use Rattle.desk.specs.declared.Held.{Held}
 use Rattle.desk.specs.Desk.{zeroEntry, sameEntry}
 use Rattle.rules.specs.Bench.{Bench, called, purseAt, running, kept, archivedBy}
@@ -29,100 +29,10 @@ use Rattle.rules.specs.Table.{countsOk, inTable, purseOk, messageOk, archiveOk,
 use Rattle.rules.specs.Laid.{seen, isZeroPurse, isZeroMessage, isZeroEntry, placesOk, heldOk}
 use Rattle.rules.proofs.Facts.{Lists, is-lists, lists-is, is-table}
 use Rattle.rules.proofs.Places.{places-long, places-fit, places-used, places-rest, Obeys, obeys, obeyed}
-use Rattle.table.specs.Records.{standing, collected, when, within, messageAlone, etherAlone, entryAlone, archiveAlone, deskOk, messageBeside, holds, entryBeside, namesOk, purseBeside, recordOk, byRecords}
-use Rattle.table.proofs.Beside.{within-table, message-alone, message-beside, message-whole, entry-alone, entry-beside, entry-whole, entry-once}
+use Rattle.table.specs.Records.{standing, collected, when, within, messageAlone, messageBeside, messageIn, entryAlone, entryBeside, entryIn, holds, namesOk, recordOf, recordOk, recordsOk, messagesOk, entriesOk, byMessages}
+use Rattle.table.proofs.Same.{when-i, when-e}
+use Rattle.table.proofs.Beside.{within-table, message-alone, message-beside, message-whole, inside, entry-alone, entry-beside, entry-whole, entry-once}
 use Rattle.table.proofs.Once.{record-apart, archived-apart, apart-archived, once-parts}
-
--- the record of purse i, from the bench's rules and back
-module _ (b : Bench) (d : Desk) (many : length (b .purses) ≡ d .purses) (ms : b .messages ≡ standing (d .ether)) (es : b .archive ≡ collected (d .archive)) where
-  purse-beside : Lists b → (i : ℕ) → i < d .purses → purseBeside d i (purseAt b i) ≡ true
-  unfolding purseBeside namesOk purseOk
-  purse-beside l i g =
-      let p : Purse = purseAt b i in
-      let own : (wellFormed (called i) p && all (inTable b) (running p ++ kept p)) ≡ true = l .purse i (omega arith) in
-      let o = rw (once-parts b i) at (l .once i (omega arith)) in
-      and-i
-      (and-i
-      (and-i
-      (and-l (wellFormed (called i) p) _ own)
-      (all-each (inTable b) (within (d .purses)) (running p ++ kept p) (λ (x : Details) (e : inTable b x ≡ true). within-table b (d .purses) many x ∙ e) (and-r (wellFormed (called i) p) _ own)))
-      (rw ms at
-      (all-both (messageOk b) (clearOk b) (messageBeside i p) (b .messages) (λ (m : Message) (s : messageOk b m ≡ true) (t : clearOk b m ≡ true). message-beside b (d .purses) many m s t i) (l .messages) (l .clear))))
-      (rw es at
-      (all-both (archiveOk b) (λ (e : Entry). when (eqb (e .by .0) i) (not (holds p (e .details)))) (entryBeside i p) (b .archive) (λ (e : Entry) (s : archiveOk b e ≡ true) (t : when (eqb (e .by .0) i) (not (holds p (e .details))) ≡ true). entry-beside b (d .purses) many e s i t) (l .entries) (and-r (distinct sameDetails (running p ++ kept p) && distinct sameDetails (archivedBy i (b .archive))) _ o)))
-
-  -- the parts of a record
-  module _ (s : (i : ℕ) → i < d .purses → purseBeside d i (purseAt b i) ≡ true) (i : ℕ) (g : i < d .purses) where
-    beside-well : (wellFormed (called i) (purseAt b i) && namesOk (d .purses) (purseAt b i)) ≡ true
-    unfolding purseBeside
-    beside-well =
-        and-l _ (all (messageBeside i (purseAt b i)) (standing (d .ether))) (and-l _ (all (entryBeside i (purseAt b i)) (collected (d .archive))) (s i g))
-
-    beside-messages : all (messageBeside i (purseAt b i)) (b .messages) ≡ true
-    unfolding purseBeside
-    beside-messages =
-        rw ms
-        (and-r (wellFormed (called i) (purseAt b i) && namesOk (d .purses) (purseAt b i)) (all (messageBeside i (purseAt b i)) (standing (d .ether)))
-        (and-l _ (all (entryBeside i (purseAt b i)) (collected (d .archive))) (s i g)))
-
-    beside-entries : all (entryBeside i (purseAt b i)) (b .archive) ≡ true
-    unfolding purseBeside
-    beside-entries =
-        rw es
-        (and-r
-        (wellFormed (called i) (purseAt b i) && namesOk (d .purses) (purseAt b i) && all (messageBeside i (purseAt b i)) (standing (d .ether)))
-        (all (entryBeside i (purseAt b i)) (collected (d .archive)))
-        (s i g))
-
-    beside-purse : purseOk b i ≡ true
-    unfolding purseOk namesOk
-    beside-purse =
-        and-i
-        (and-l (wellFormed (called i) (purseAt b i)) (namesOk (d .purses) (purseAt b i)) beside-well)
-        (all-each (within (d .purses)) (inTable b) (running (purseAt b i) ++ kept (purseAt b i)) (λ (x : Details) (e : within (d .purses) x ≡ true). sym (within-table b (d .purses) many x) ∙ e) (and-r (wellFormed (called i) (purseAt b i)) (namesOk (d .purses) (purseAt b i)) beside-well))
-
-    beside-once : distinct sameEntry (b .archive) ≡ true → onceOk b i ≡ true
-    beside-once a =
-        once-parts b i
-        ∙ and-i
-        (and-i
-        (record-apart (called i) (purseAt b i) (and-l (wellFormed (called i) (purseAt b i)) (namesOk (d .purses) (purseAt b i)) beside-well))
-        (archived-apart (b .archive) a i))
-        (all-each (entryBeside i (purseAt b i)) (λ (e : Entry). when (eqb (e .by .0) i) (not (holds (purseAt b i) (e .details)))) (b .archive) (λ (e : Entry) (k : entryBeside i (purseAt b i) e ≡ true). entry-once b (d .purses) many e i k) beside-entries)
-
-  lists-beside : countsOk b ≡ true → all (messageAlone (d .purses)) (b .messages) ≡ true → distinct sameMessage (b .messages) ≡ true → all (entryAlone (d .purses)) (b .archive) ≡ true → distinct sameEntry (b .archive) ≡ true → ((i : ℕ) → i < d .purses → purseBeside d i (purseAt b i) ≡ true) → Lists b
-  lists-beside c a x e y s =
-      let whole : (j : ℕ) → j < length (b .messages) → (messageOk b (getD (b .messages) j zeroMessage) ≡ true) × (clearOk b (getD (b .messages) j zeroMessage) ≡ true) =
-      λ (j : ℕ) (g : j < length (b .messages)).
-      message-whole b (d .purses) many (getD (b .messages) j zeroMessage)
-      (all-at (messageAlone (d .purses)) (b .messages) zeroMessage j a g)
-      (λ (i : ℕ) (k : i < d .purses). all-at (messageBeside i (purseAt b i)) (b .messages) zeroMessage j (beside-messages s i k) g) in
-      record {
-        counts = c;
-        purse = λ (i : ℕ) (g : i < length (b .purses)). beside-purse s i (omega arith);
-        messages = all-places (messageOk b) (b .messages) zeroMessage (λ (j : ℕ) (g : j < length (b .messages)). whole j g .0);
-        entries =
-            all-places (archiveOk b) (b .archive) zeroEntry (λ (j : ℕ) (g : j < length (b .archive)).
-            entry-whole b (d .purses) many (getD (b .archive) j zeroEntry)
-            (all-at (entryAlone (d .purses)) (b .archive) zeroEntry j e g)
-            (λ (i : ℕ) (k : i < d .purses). all-at (entryBeside i (purseAt b i)) (b .archive) zeroEntry j (beside-entries s i k) g));
-        once = λ (i : ℕ) (g : i < length (b .purses)). beside-once s i (omega arith) y;
-        apart = x;
-        clear = all-places (clearOk b) (b .messages) zeroMessage (λ (j : ℕ) (g : j < length (b .messages)). whole j g .1);
-      }
-
-  -- the lists alone
-  lists-alone : Lists b → (all (messageAlone (d .purses)) (b .messages) ≡ true) × (all (entryAlone (d .purses)) (b .archive) ≡ true) × (distinct sameEntry (b .archive) ≡ true)
-  lists-alone l =
-      let e : all (entryAlone (d .purses)) (b .archive) ≡ true =
-      all-each (archiveOk b) (entryAlone (d .purses)) (b .archive) (λ (x : Entry) (k : archiveOk b x ≡ true). entry-alone b (d .purses) many x k) (l .entries) in (
-        all-each (messageOk b) (messageAlone (d .purses)) (b .messages) (λ (m : Message) (k : messageOk b m ≡ true). message-alone b (d .purses) many m k) (l .messages),
-        e,
-        apart-archived (d .purses) (b .archive) e (λ (i : ℕ) (g : i < d .purses).
-            let o = rw (once-parts b i) at (l .once i (omega arith)) in
-            and-r (distinct sameDetails (running (purseAt b i) ++ kept (purseAt b i))) (distinct sameDetails (archivedBy i (b .archive)))
-            (and-l _ (all (λ (x : Entry). when (eqb (x .by .0) i) (not (holds (purseAt b i) (x .details)))) (b .archive)) o)),
-      )
 
 -- an unused place is zero
 places-zero : {A : Type 0} (f : A → Bool) (many n : ℕ) (l : List A) → placesOk f many n l ≡ true → (i : ℕ) (z : A) → n ≤ i → i < many → f (getD l i z) ≡ true
@@ -141,19 +51,54 @@ zero-places f many n l z e k h =
     rw (getD-drop n l j z) (h (n + j) (omega arith) (omega arith))))
 
 -- a record's test, by its place
-module _ (d : Desk) (i : ℕ) (p : Purse) where
-  pub is-used : i < d .purses → recordOk d i p ≡ purseBeside d i p
+module _ (n i : ℕ) (p : Purse) where
+  is-used : i < n → recordOk n i p ≡ (wellFormed (called i) p && namesOk n p)
   unfolding recordOk
-  is-used g = rw (lt-ltb i (d .purses) g)
+  is-used g = rw (lt-ltb i n g)
 
-  pub is-unused : d .purses ≤ i → recordOk d i p ≡ isZeroPurse p
+  is-unused : n ≤ i → recordOk n i p ≡ isZeroPurse p
   unfolding recordOk
-  is-unused g = rw (le-ltb i (d .purses) g)
+  is-unused g = rw (le-ltb i n g)
 
 module _ (h : Held) where
-  -- a record of the table is the bench's purse
-  at-place : (i : ℕ) → i < h .desk .purses → purseAt (seen h) i ≡ getD (h .table) i zeroPurse
-  at-place i g = getD-take (h .desk .purses) (h .table) i zeroPurse g
+  abbrev n : ℕ
+  n = h .desk .purses
+
+  abbrev l : List Purse
+  l = h .table
+
+  abbrev b : Bench
+  b = seen h
+
+  abbrev own : ℕ → Purse
+  own i = purseAt b i
+
+  -- a record of the table is the bench's purse, and so is the one that a name looks up
+  at-place : (i : ℕ) → i < n → own i ≡ getD l i zeroPurse
+  at-place i g = getD-take n l i zeroPurse g
+
+  at-name : n ≤ 32 → (k : Name) → k .0 < n → recordOf l k ≡ own (k .0)
+  at-name fits k g =
+      let e : k .0 % 32 ≡ k .0 = omega arith in
+      ap (λ (i : ℕ). getD l i zeroPurse) e ∙ sym (at-place (k .0) g)
+
+  message-seen : n ≤ 32 → (m : Message) → m .details .payee .0 < n → m .details .payer .0 < n → messageIn n l m ≡ messageBeside n (own (m .details .payee .0)) (own (m .details .payer .0)) m
+  message-seen fits m g k = rw (at-name fits (m .details .payee) g, at-name fits (m .details .payer) k)
+
+  entry-seen : n ≤ 32 → (e : Entry) → e .by .0 < n → entryIn n l e ≡ entryBeside n (own (e .by .0)) e
+  entry-seen fits e g = rw (at-name fits (e .by) g)
+
+  message-in : (m : Message) → messageIn n l m ≡ true → messageAlone n m ≡ true
+  unfolding messageBeside
+  message-in m k = and-l (messageAlone n m) _ (and-l _ _ k)
+
+  entry-in : (e : Entry) → entryIn n l e ≡ true → entryAlone n e ≡ true
+  unfolding entryBeside
+  entry-in e k = and-l (entryAlone n e) _ (and-l _ _ k)
+
+  by-below : (e : Entry) → entryAlone n e ≡ true → e .by .0 < n
+  unfolding entryAlone
+  by-below e k = ltb-true _ _ (and-l (ltb (e .by .0) n) _ k)
 
   counts-seen : h .desk .purses ≤ 32 → length (h .table) ≡ 32 → 1 ≤ h .desk .purses → placesOk isZeroMessage 256 (h .desk .ether .count) (h .desk .ether .places) ≡ true → placesOk isZeroEntry 256 (h .desk .archive .count) (h .desk .archive .places) ≡ true → countsOk (seen h) ≡ true
   unfolding countsOk
@@ -165,84 +110,164 @@ module _ (h : Held) where
       (le-leb (length (standing (h .desk .ether))) 256 (omega (arith, places-used isZeroMessage 256 (h .desk .ether .count) (h .desk .ether .places) m, places-fit isZeroMessage 256 (h .desk .ether .count) (h .desk .ether .places) m))))
       (le-leb (length (collected (h .desk .archive))) 256 (omega (arith, places-used isZeroEntry 256 (h .desk .archive .count) (h .desk .archive .places) e, places-fit isZeroEntry 256 (h .desk .archive .count) (h .desk .archive .places) e)))
 
-  to : heldOk h ≡ true → byRecords h ≡ true
-  unfolding byRecords deskOk etherAlone archiveAlone
+  module _ (fits : n ≤ 32) (many : length (take n l) ≡ n) where
+    -- from the bench's rules
+    module _ (r : Lists b) where
+      record-to : (i : ℕ) → i < n → (wellFormed (called i) (own i) && namesOk n (own i)) ≡ true
+      unfolding namesOk purseOk
+      record-to i g =
+          let k : (wellFormed (called i) (own i) && all (inTable b) (running (own i) ++ kept (own i))) ≡ true = r .purse i (omega arith) in
+          and-i
+          (and-l (wellFormed (called i) (own i)) _ k)
+          (all-each (inTable b) (within n) (running (own i) ++ kept (own i)) (λ (x : Details) (e : inTable b x ≡ true). within-table b n many x ∙ e) (and-r (wellFormed (called i) (own i)) _ k))
+
+      messages-to : all (messageIn n l) (b .messages) ≡ true
+      messages-to =
+          all-both (messageOk b) (clearOk b) (messageIn n l) (b .messages) (λ (m : Message) (s : messageOk b m ≡ true) (t : clearOk b m ≡ true).
+          let k = inside b n many m (message-alone b n many m s) in
+          message-seen fits m (k .0) (k .1) ∙ message-beside b n many m s t) (r .messages) (r .clear)
+
+      -- what an entry's purse holds besides
+      entry-apart : (j : ℕ) → j < length (b .archive) → getD (b .archive) j zeroEntry .by .0 < n → not (holds (own (getD (b .archive) j zeroEntry .by .0)) (getD (b .archive) j zeroEntry .details)) ≡ true
+      entry-apart j g k =
+          let e : Entry = getD (b .archive) j zeroEntry in
+          let i : ℕ = e .by .0 in
+          let f : Entry → Bool = λ (x : Entry). when (eqb (x .by .0) i) (not (holds (own i) (x .details))) in
+          let o = rw (once-parts b i) at (r .once i (omega arith)) in
+          let s : f e ≡ true = all-at f (b .archive) zeroEntry j (and-r (distinct sameDetails (running (own i) ++ kept (own i)) && distinct sameDetails (archivedBy i (b .archive))) _ o) g in
+          when-e (eqb i i) (not (holds (own i) (e .details))) s (eq-eqb i i refl)
+
+      entries-to : all (entryIn n l) (b .archive) ≡ true
+      entries-to =
+          all-places (entryIn n l) (b .archive) zeroEntry (λ (j : ℕ) (g : j < length (b .archive)).
+          let e : Entry = getD (b .archive) j zeroEntry in
+          let a : archiveOk b e ≡ true = all-at (archiveOk b) (b .archive) zeroEntry j (r .entries) g in
+          let k : e .by .0 < n = by-below e (entry-alone b n many e a) in
+          entry-seen fits e k ∙ entry-beside b n many e a (entry-apart j g k))
+
+      apart-to : distinct sameEntry (b .archive) ≡ true
+      apart-to =
+          apart-archived n (b .archive)
+          (all-each (archiveOk b) (entryAlone n) (b .archive) (λ (x : Entry) (k : archiveOk b x ≡ true). entry-alone b n many x k) (r .entries))
+          (λ (i : ℕ) (g : i < n).
+          let o = rw (once-parts b i) at (r .once i (omega arith)) in
+          and-r (distinct sameDetails (running (own i) ++ kept (own i))) (distinct sameDetails (archivedBy i (b .archive)))
+          (and-l _ (all (λ (x : Entry). when (eqb (x .by .0) i) (not (holds (own i) (x .details)))) (b .archive)) o))
+
+    -- .. and back
+    module _ (s : (i : ℕ) → i < n → (wellFormed (called i) (own i) && namesOk n (own i)) ≡ true) (ms : all (messageIn n l) (b .messages) ≡ true) (es : all (entryIn n l) (b .archive) ≡ true) where
+      purse-from : (i : ℕ) → i < n → purseOk b i ≡ true
+      unfolding purseOk namesOk
+      purse-from i g =
+          and-i
+          (and-l (wellFormed (called i) (own i)) (namesOk n (own i)) (s i g))
+          (all-each (within n) (inTable b) (running (own i) ++ kept (own i)) (λ (x : Details) (e : within n x ≡ true). sym (within-table b n many x) ∙ e) (and-r (wellFormed (called i) (own i)) (namesOk n (own i)) (s i g)))
+
+      message-from : (m : Message) → messageIn n l m ≡ true → (messageOk b m ≡ true) × (clearOk b m ≡ true)
+      message-from m k =
+          let w = inside b n many m (message-in m k) in
+          message-whole b n many m (sym (message-seen fits m (w .0) (w .1)) ∙ k)
+
+      entry-from : (e : Entry) → entryIn n l e ≡ true → entryBeside n (own (e .by .0)) e ≡ true
+      entry-from e k = sym (entry-seen fits e (by-below e (entry-in e k))) ∙ k
+
+      -- an entry that purse i logged
+      apart-from : (i : ℕ) (e : Entry) → entryIn n l e ≡ true → when (eqb (e .by .0) i) (not (holds (own i) (e .details))) ≡ true
+      apart-from i e k =
+          when-i (eqb (e .by .0) i) (not (holds (own i) (e .details))) (λ (w : eqb (e .by .0) i ≡ true).
+          rw (eqb-true (e .by .0) i w) at (entry-once b n many e (entry-from e k)))
+
+      once-from : distinct sameEntry (b .archive) ≡ true → (i : ℕ) → i < n → onceOk b i ≡ true
+      once-from a i g =
+          once-parts b i
+          ∙ and-i
+          (and-i (record-apart (called i) (own i) (and-l (wellFormed (called i) (own i)) (namesOk n (own i)) (s i g))) (archived-apart (b .archive) a i))
+          (all-each (entryIn n l) (λ (e : Entry). when (eqb (e .by .0) i) (not (holds (own i) (e .details)))) (b .archive) (apart-from i) es)
+
+      lists-from : countsOk b ≡ true → distinct sameMessage (b .messages) ≡ true → distinct sameEntry (b .archive) ≡ true → Lists b
+      lists-from c x y =
+          record {
+            counts = c;
+            purse = λ (i : ℕ) (g : i < length (b .purses)). purse-from i (omega arith);
+            messages = all-each (messageIn n l) (messageOk b) (b .messages) (λ (m : Message) (k : messageIn n l m ≡ true). message-from m k .0) ms;
+            entries = all-each (entryIn n l) (archiveOk b) (b .archive) (λ (e : Entry) (k : entryIn n l e ≡ true). entry-whole b n many e (entry-from e k)) es;
+            once = λ (i : ℕ) (g : i < length (b .purses)). once-from y i (omega arith);
+            apart = x;
+            clear = all-each (messageIn n l) (clearOk b) (b .messages) (λ (m : Message) (k : messageIn n l m ≡ true). message-from m k .1) ms;
+          }
+
+  to : heldOk h ≡ true → byMessages h ≡ true
+  unfolding byMessages recordsOk messagesOk entriesOk
   to k =
-      let n : ℕ = h .desk .purses in
       let o : Obeys h = obeys h k in
-      let many : length (take n (h .table)) ≡ n = places-used isZeroPurse 32 n (h .table) (o .purses) in
-      let l : Lists (seen h) = is-lists (seen h) (o .lists) in
-      let a = lists-alone (seen h) (h .desk) many refl refl l in
-      let one : 1 ≤ n = omega (arith, is-table (seen h) (o .lists) .some) in
-      let records : (i : ℕ) → i < 32 → recordOk (h .desk) i (getD (h .table) i zeroPurse) ≡ true =
+      let many : length (take n l) ≡ n = places-used isZeroPurse 32 n l (o .purses) in
+      let fits : n ≤ 32 = places-fit isZeroPurse 32 n l (o .purses) in
+      let r : Lists b = is-lists b (o .lists) in
+      let one : 1 ≤ n = omega (arith, is-table b (o .lists) .some) in
+      let records : (i : ℕ) → i < 32 → recordOk n i (getD l i zeroPurse) ≡ true =
       λ (i : ℕ) (g : i < 32).
       ⊎-elim
       (λ (w : ltb i n ≡ true).
-      is-used (h .desk) i (getD (h .table) i zeroPurse) (ltb-true i n w)
-      ∙ rw (at-place i (ltb-true i n w)) at (purse-beside (seen h) (h .desk) many refl refl l i (ltb-true i n w)))
+      is-used n i (getD l i zeroPurse) (ltb-true i n w) ∙ rw (at-place i (ltb-true i n w)) at (record-to fits many r i (ltb-true i n w)))
       (λ (w : ltb i n ≡ false).
-      is-unused (h .desk) i (getD (h .table) i zeroPurse) (ltb-false i n w)
-      ∙ places-zero isZeroPurse 32 n (h .table) (o .purses) i zeroPurse (ltb-false i n w) g)
+      is-unused n i (getD l i zeroPurse) (ltb-false i n w) ∙ places-zero isZeroPurse 32 n l (o .purses) i zeroPurse (ltb-false i n w) g)
       (which (ltb i n)) in
       and-i
-      (and-i (eq-eqb _ _ (places-long isZeroPurse 32 n (h .table) (o .purses)))
       (and-i
-      (and-i (and-i (le-leb _ _ one) (le-leb _ _ (places-fit isZeroPurse 32 n (h .table) (o .purses)))) (and-i (and-i (o .messages) (a .0)) (l .apart)))
-      (and-i (and-i (o .entries) (a .1)) (a .2))))
-      (every-all (λ (i : ℕ). recordOk (h .desk) i (getD (h .table) i zeroPurse)) 32 records)
+      (and-i
+      (and-i (and-i (eq-eqb _ _ (places-long isZeroPurse 32 n l (o .purses))) (le-leb _ _ one)) (le-leb _ _ fits))
+      (every-all (λ (i : ℕ). recordOk n i (getD l i zeroPurse)) 32 records))
+      (and-i (and-i (o .messages) (messages-to fits many r)) (r .apart)))
+      (and-i (and-i (o .entries) (entries-to fits many r)) (apart-to fits many r))
 
-  from : byRecords h ≡ true → heldOk h ≡ true
-  unfolding byRecords deskOk etherAlone archiveAlone
+  from : byMessages h ≡ true → heldOk h ≡ true
+  unfolding byMessages recordsOk messagesOk entriesOk
   from k =
-      let n : ℕ = h .desk .purses in
       let m : Bool = placesOk isZeroMessage 256 (h .desk .ether .count) (h .desk .ether .places) in
-      let am : Bool = all (messageAlone n) (standing (h .desk .ether)) in
+      let am : Bool = all (messageIn n l) (standing (h .desk .ether)) in
       let dm : Bool = distinct sameMessage (standing (h .desk .ether)) in
       let e : Bool = placesOk isZeroEntry 256 (h .desk .archive .count) (h .desk .archive .places) in
-      let ae : Bool = all (entryAlone n) (collected (h .desk .archive)) in
+      let ae : Bool = all (entryIn n l) (collected (h .desk .archive)) in
       let de : Bool = distinct sameEntry (collected (h .desk .archive)) in
-      let f : ℕ → Bool = λ (i : ℕ). recordOk (h .desk) i (getD (h .table) i zeroPurse) in
-      let q : Bool = eqb (length (h .table)) 32 in
-      let kd : (leb 1 n && leb n 32 && (m && am && dm) && (e && ae && de)) ≡ true =
-      and-r q (leb 1 n && leb n 32 && (m && am && dm) && (e && ae && de)) (and-l (q && deskOk (h .desk)) (every 32 f) k) in
-      let long : length (h .table) ≡ 32 = eqb-true _ _ (and-l q (deskOk (h .desk)) (and-l (q && deskOk (h .desk)) (every 32 f) k)) in
-      let kc : (leb 1 n && leb n 32) ≡ true = and-l (leb 1 n && leb n 32) (m && am && dm) (and-l _ (e && ae && de) kd) in
-      let km : (m && am && dm) ≡ true = and-r (leb 1 n && leb n 32) (m && am && dm) (and-l _ (e && ae && de) kd) in
-      let ke : (e && ae && de) ≡ true = and-r (leb 1 n && leb n 32 && (m && am && dm)) (e && ae && de) kd in
-      let fits : n ≤ 32 = leb-true n 32 (and-r (leb 1 n) (leb n 32) kc) in
+      let f : ℕ → Bool = λ (i : ℕ). recordOk n i (getD l i zeroPurse) in
+      let q : Bool = eqb (length l) 32 in
+      let k4 : (q && leb 1 n && leb n 32 && every 32 f && (m && am && dm)) ≡ true =
+      and-l (q && leb 1 n && leb n 32 && every 32 f && (m && am && dm)) (e && ae && de) k in
+      let ke : (e && ae && de) ≡ true = and-r (q && leb 1 n && leb n 32 && every 32 f && (m && am && dm)) (e && ae && de) k in
+      let km : (m && am && dm) ≡ true = and-r (q && leb 1 n && leb n 32 && every 32 f) (m && am && dm) k4 in
+      let k3 : (q && leb 1 n && leb n 32 && every 32 f) ≡ true = and-l (q && leb 1 n && leb n 32 && every 32 f) (m && am && dm) k4 in
+      let k2 : (q && leb 1 n && leb n 32) ≡ true = and-l (q && leb 1 n && leb n 32) (every 32 f) k3 in
+      let long : length l ≡ 32 = eqb-true _ _ (and-l q (leb 1 n) (and-l (q && leb 1 n) (leb n 32) k2)) in
+      let one : 1 ≤ n = leb-true 1 n (and-r q (leb 1 n) (and-l (q && leb 1 n) (leb n 32) k2)) in
+      let fits : n ≤ 32 = leb-true n 32 (and-r (q && leb 1 n) (leb n 32) k2) in
       let pm : m ≡ true = and-l m am (and-l (m && am) dm km) in
       let pe : e ≡ true = and-l e ae (and-l (e && ae) de ke) in
-      let kr : (i : ℕ) → i < 32 → f i ≡ true = λ (i : ℕ) (g : i < 32). every-at f 32 i (and-r (q && deskOk (h .desk)) (every 32 f) k) g in
-      let kp : placesOk isZeroPurse 32 n (h .table) ≡ true =
-      zero-places isZeroPurse 32 n (h .table) zeroPurse long fits (λ (i : ℕ) (g : n ≤ i) (w : i < 32).
-      sym (is-unused (h .desk) i (getD (h .table) i zeroPurse) g) ∙ kr i w) in
-      let many : length (take n (h .table)) ≡ n = places-used isZeroPurse 32 n (h .table) kp in
-      let s : (i : ℕ) → i < n → purseBeside (h .desk) i (purseAt (seen h) i) ≡ true =
+      let kr : (i : ℕ) → i < 32 → f i ≡ true = λ (i : ℕ) (g : i < 32). every-at f 32 i (and-r (q && leb 1 n && leb n 32) (every 32 f) k3) g in
+      let kp : placesOk isZeroPurse 32 n l ≡ true =
+      zero-places isZeroPurse 32 n l zeroPurse long fits (λ (i : ℕ) (g : n ≤ i) (w : i < 32).
+      sym (is-unused n i (getD l i zeroPurse) g) ∙ kr i w) in
+      let many : length (take n l) ≡ n = places-used isZeroPurse 32 n l kp in
+      let s : (i : ℕ) → i < n → (wellFormed (called i) (own i) && namesOk n (own i)) ≡ true =
       λ (i : ℕ) (g : i < n).
-      rw (at-place i g) (sym (is-used (h .desk) i (getD (h .table) i zeroPurse) g) ∙ kr i (omega arith)) in
+      rw (at-place i g) (sym (is-used n i (getD l i zeroPurse) g) ∙ kr i (omega arith)) in
       obeyed h (record {
         purses = kp;
         messages = pm;
         entries = pe;
         lists =
-            lists-is (seen h)
-            (lists-beside (seen h) (h .desk) many refl refl
-            (counts-seen fits long (leb-true 1 n (and-l (leb 1 n) (leb n 32) kc)) pm pe)
+            lists-is b
+            (lists-from fits many s
             (and-r m am (and-l (m && am) dm km))
-            (and-r (m && am) dm km)
             (and-r e ae (and-l (e && ae) de ke))
-            (and-r (e && ae) de ke)
-            s);
+            (counts-seen fits long one pm pe)
+            (and-r (m && am) dm km)
+            (and-r (e && ae) de ke));
       })
 
-  pub held-by-records : heldOk h ≡ byRecords h
-  held-by-records = together (heldOk h) (byRecords h) to from
+  pub held-by-messages : heldOk h ≡ byMessages h
+  held-by-messages = together (heldOk h) (byMessages h) to from
 
--- a loop over the records, and all of them asked
-pub held-walked : (h : Held) (i : ℕ) (ok₀ : Bool) {ok : Bool} → length (h .table) ≡ 32 → i ≡ 32 → ok₀ ≡ deskOk (h .desk) → ok ≡ (ok₀ && every i (λ (j : ℕ). recordOk (h .desk) j (getD (h .table) j zeroPurse))) → ok ≡ heldOk h
-unfolding byRecords
-held-walked h i ok₀ {ok} long full d k =
-    let f : ℕ → Bool = λ (j : ℕ). recordOk (h .desk) j (getD (h .table) j zeroPurse) in
-    let a : ok ≡ (deskOk (h .desk) && every 32 f) = k ∙ ap (λ (n : ℕ). ok₀ && every n f) full ∙ ap (λ (b : Bool). b && every 32 f) d in
-    let w : byRecords h ≡ (deskOk (h .desk) && every 32 f) = ap (λ (b : Bool). b && deskOk (h .desk) && every 32 f) (eq-eqb (length (h .table)) 32 long) in
-    a ∙ sym w ∙ sym (held-by-records h)
+  -- the parts asked, of a table of 32 records
+  pub held-asked : {r : Bool} → length l ≡ 32 → r ≡ (leb 1 n && leb n 32 && recordsOk n l && messagesOk n l (h .desk .ether) && entriesOk n l (h .desk .archive)) → r ≡ heldOk h
+  unfolding byMessages
+  held-asked long k = k ∙ sym (held-by-messages ∙ rw (eq-eqb (length l) 32 long))

@@ -1,7 +1,7 @@
 -- Being the same is symmetric: of numbers, details, messages and entries. And a test asked only where another holds.
 -- Assumes nothing.
 use Prim.Native.Nat.{ℕ}
-use mathlib.Core.Path.{_≡_, refl}
+use mathlib.Core.Path.{_≡_, refl, ap}
 use mathlib.Core.Bool.{Bool, true, false}
 use lib.Dec.{eqb}
 use borrow.Author.Tests.{eqb-true, eq-eqb}
@@ -12,7 +12,7 @@ use Rattle.purse.proofs.Count.{turn}
 use Rattle.desk.specs.declared.Entry.{Entry}
 use Rattle.desk.specs.Desk.{sameEntry}
 use Rattle.rules.proofs.Facts.{details-equal, details-same, message-equal, message-same, entry-equal, entry-same}
-use Rattle.table.specs.Records.{when}
+use Rattle.table.specs.Records.{when, keyOf}
 
 pub turn-number : (a b : ℕ) → eqb a b ≡ eqb b a
 turn-number = turn eqb eqb-true (λ (n : ℕ). eq-eqb n n refl)
@@ -33,3 +33,16 @@ when-i false b h = refl
 pub when-e : (a b : Bool) → when a b ≡ true → a ≡ true → b ≡ true
 when-e true b h e = h
 when-e false b h e = cc
+
+-- what is the same has the same key
+abbrev pub messageKey : Message → ℕ
+messageKey m = keyOf (m .kind) (m .details)
+
+pub message-key : (m k : Message) → sameMessage m k ≡ true → messageKey m ≡ messageKey k
+message-key m k e = ap messageKey (message-equal m k e)
+
+abbrev pub entryKey : Entry → ℕ
+entryKey e = keyOf (e .by .0) (e .details)
+
+pub entry-key : (e f : Entry) → sameEntry e f ≡ true → entryKey e ≡ entryKey f
+entry-key e f k = ap entryKey (entry-equal e f k)

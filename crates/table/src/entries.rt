@@ -1,18 +1,18 @@
-// The archive's entries: alone, and beside a record.
-use crate::places::at_most;
+// The archive's entries: each once, beside the record of the purse that logged it.
 use crate::places::is_within;
+use crate::places::key;
+use crate::places::place;
 use crate::records::holds;
 use desk::Archive;
 use desk::Entry;
-use purse::Name;
 use purse::Purse;
 use refusals::form::is_entry;
 ghost use mathlib.Core.Path.{_≡_};
-ghost use lib.ListN.{drop};
-ghost use Rattle.purse.specs.Lists.{all, distinct};
+ghost use Prim.Native.Nat.{_≤_};
+ghost use lib.ListN.{take};
+ghost use Rattle.purse.specs.Lists.{among};
 ghost use Rattle.desk.specs.Desk.{sameEntry};
-ghost use Rattle.rules.specs.Laid.{isZeroEntry};
-ghost use Rattle.table.specs.Records.{collected, entryAlone, archiveAlone, entryBeside};
+ghost use Rattle.table.specs.Records.{entryAlone, entryBeside, entriesOk};
 
 // The purses that an entry names.
 fn entry_alone(e: Entry, purses: u8) -> bool
@@ -21,82 +21,64 @@ fn entry_alone(e: Entry, purses: u8) -> bool
     (e.by.0 < purses) & is_within(e.details, purses)
 }
 
-fn each_alone(a: Archive, purses: u8) -> bool
-    ensures { λ r. ⌜ r ≡ all (entryAlone purses) (collected a) ⌝ }
+// An entry beside the record of the purse that logged it.
+fn entry_beside(p: Purse, e: Entry, purses: u8) -> bool
+    ensures { λ r. ⌜ r ≡ entryBeside purses p e ⌝ }
 {
-    let count = at_most(a.count as usize, 256);
-    let mut ok = true;
-    let mut i: usize = 0;
-    while i < count {
-        let e = a.places[i];
-        ok = ok & entry_alone(e, purses);
-        i += 1;
-    }
-    ok
+    entry_alone(e, purses) & is_entry(e.details, e.by, p.next) & !holds(p, e.details)
 }
 
-fn unused_zero(a: Archive) -> bool
-    ensures { λ r. ⌜ r ≡ all isZeroEntry (drop (a .count) (a .places)) ⌝ }
+// Whether one of the first n places is the same.
+fn is_before(archive: Archive, e: Entry, n: usize) -> bool
+    requires { ⌜ n ≤ 256 ⌝ }
+    ensures { λ r. ⌜ r ≡ among sameEntry e (take n (archive .places)) ⌝ }
 {
+    let mut hit = false;
+    let mut j: usize = 0;
+    while j < n {
+        let o = archive.places[j];
+        hit = hit | e.same(o);
+        j += 1;
+    }
+    hit
+}
+
+// Each entry beside the record of its purse, and against those before it that have its key; then the unused places.
+pub(crate) fn entries_ok(table: [Purse; 32], archive: Archive, purses: u8) -> bool
+    ensures { λ r. ⌜ r ≡ entriesOk purses table archive ⌝ }
+{
+    let count = archive.count as usize;
+    if 256 < count {
+        return false;
+    }
+    let mut keys: [u32; 256] = [0; 256];
+    let mut i: usize = 0;
+    while i < count {
+        let e = archive.places[i];
+        let a = place(e.by);
+        let by = table[a];
+        if !entry_beside(by, e, purses) {
+            return false;
+        }
+        let k = key(e.by.0, e.details);
+        let mut hit = false;
+        let mut s: usize = 0;
+        while s < i {
+            hit = hit | (k == keys[s]);
+            s += 1;
+        }
+        let again = if hit { is_before(archive, e, i) } else { false };
+        if again {
+            return false;
+        }
+        keys[i] = k;
+        i += 1;
+    }
     let zero = Entry::zero();
     let mut ok = true;
-    let mut i = a.count as usize;
     while i < 256 {
-        let e = a.places[i];
+        let e = archive.places[i];
         ok = ok & e.same(zero);
-        i += 1;
-    }
-    ok
-}
-
-// Each entry against those before it.
-fn no_two_equal(a: Archive) -> bool
-    ensures { λ r. ⌜ r ≡ distinct sameEntry (collected a) ⌝ }
-{
-    let count = at_most(a.count as usize, 256);
-    let mut i: usize = 0;
-    while i < count {
-        let e = a.places[i];
-        let mut j: usize = 0;
-        while j < i {
-            let o = a.places[j];
-            if e.same(o) {
-                return false;
-            }
-            j += 1;
-        }
-        i += 1;
-    }
-    true
-}
-
-pub(crate) fn archive_alone(a: Archive, purses: u8) -> bool
-    ensures { λ r. ⌜ r ≡ archiveAlone purses a ⌝ }
-{
-    (a.count <= 256) & unused_zero(a) & each_alone(a, purses) & no_two_equal(a)
-}
-
-// An entry beside the record of a purse: asked only of those that it logged.
-fn entry_beside(p: Purse, own: Name, e: Entry) -> bool
-    ensures { λ r. ⌜ r ≡ entryBeside (own .0) p e ⌝ }
-{
-    let d = e.details;
-    if e.by.0 == own.0 {
-        is_entry(d, own, p.next) & !holds(p, d)
-    } else {
-        true
-    }
-}
-
-pub(crate) fn each_beside(a: Archive, p: Purse, own: Name) -> bool
-    ensures { λ r. ⌜ r ≡ all (entryBeside (own .0) p) (collected a) ⌝ }
-{
-    let count = at_most(a.count as usize, 256);
-    let mut ok = true;
-    let mut i: usize = 0;
-    while i < count {
-        let e = a.places[i];
-        ok = ok & entry_beside(p, own, e);
         i += 1;
     }
     ok

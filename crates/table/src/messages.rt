@@ -1,79 +1,23 @@
-// The ether's messages: alone, and beside a record.
-use crate::places::at_most;
+// The messages: each once, beside the records that it names.
 use crate::places::is_within;
+use crate::places::key;
+use crate::places::place;
 use desk::Ether;
 use purse::Message;
-use purse::Name;
 use purse::Purse;
 use refusals::form::is_named;
 ghost use mathlib.Core.Path.{_≡_};
-ghost use lib.Dec.{eqb};
-ghost use lib.ListN.{drop};
-ghost use Rattle.purse.specs.Lists.{all, distinct};
+ghost use Prim.Native.Nat.{_≤_};
+ghost use lib.ListN.{take};
+ghost use Rattle.purse.specs.Lists.{among};
 ghost use Rattle.purse.specs.Details.{sameMessage};
-ghost use Rattle.rules.specs.Laid.{isZeroMessage};
-ghost use Rattle.table.specs.Records.{standing, messageAlone, etherAlone, when, payeeOk, payerOk, messageBeside};
+ghost use Rattle.table.specs.Records.{messageAlone, payeeOk, payerOk, messageBeside, messagesOk};
 
 // A message's kind and what its details name.
 fn message_alone(m: Message, purses: u8) -> bool
     ensures { λ r. ⌜ r ≡ messageAlone purses m ⌝ }
 {
     (1 <= m.kind) & (m.kind <= 3) & is_named(m.details) & is_within(m.details, purses)
-}
-
-fn each_alone(e: Ether, purses: u8) -> bool
-    ensures { λ r. ⌜ r ≡ all (messageAlone purses) (standing e) ⌝ }
-{
-    let count = at_most(e.count as usize, 256);
-    let mut ok = true;
-    let mut i: usize = 0;
-    while i < count {
-        let m = e.places[i];
-        ok = ok & message_alone(m, purses);
-        i += 1;
-    }
-    ok
-}
-
-fn unused_zero(e: Ether) -> bool
-    ensures { λ r. ⌜ r ≡ all isZeroMessage (drop (e .count) (e .places)) ⌝ }
-{
-    let zero = Message::zero();
-    let mut ok = true;
-    let mut i = e.count as usize;
-    while i < 256 {
-        let m = e.places[i];
-        ok = ok & m.same(zero);
-        i += 1;
-    }
-    ok
-}
-
-// Each message against those before it.
-fn no_two_equal(e: Ether) -> bool
-    ensures { λ r. ⌜ r ≡ distinct sameMessage (standing e) ⌝ }
-{
-    let count = at_most(e.count as usize, 256);
-    let mut i: usize = 0;
-    while i < count {
-        let m = e.places[i];
-        let mut j: usize = 0;
-        while j < i {
-            let o = e.places[j];
-            if m.same(o) {
-                return false;
-            }
-            j += 1;
-        }
-        i += 1;
-    }
-    true
-}
-
-pub(crate) fn ether_alone(e: Ether, purses: u8) -> bool
-    ensures { λ r. ⌜ r ≡ etherAlone purses e ⌝ }
-{
-    (e.count <= 256) & unused_zero(e) & each_alone(e, purses) & no_two_equal(e)
 }
 
 // A message beside the record of its payee.
@@ -95,42 +39,65 @@ fn payer_ok(p: Purse, m: Message) -> bool
         & !((2 <= m.kind) & ((p.status == 1) & d.same(p.details)))
 }
 
-// Asked only of a message to the purse, and only of one from it.
-fn to_purse(p: Purse, own: Name, m: Message) -> bool
-    ensures { λ r. ⌜ r ≡ when (eqb (m .details .payee .0) (own .0)) (payeeOk p m) ⌝ }
+fn message_beside(payee: Purse, payer: Purse, m: Message, purses: u8) -> bool
+    ensures { λ r. ⌜ r ≡ messageBeside purses payee payer m ⌝ }
 {
-    if m.details.payee.0 == own.0 {
-        payee_ok(p, m)
-    } else {
-        true
+    message_alone(m, purses) & payee_ok(payee, m) & payer_ok(payer, m)
+}
+
+// Whether one of the first n places is the same.
+fn is_before(ether: Ether, m: Message, n: usize) -> bool
+    requires { ⌜ n ≤ 256 ⌝ }
+    ensures { λ r. ⌜ r ≡ among sameMessage m (take n (ether .places)) ⌝ }
+{
+    let mut hit = false;
+    let mut j: usize = 0;
+    while j < n {
+        let o = ether.places[j];
+        hit = hit | m.same(o);
+        j += 1;
     }
+    hit
 }
 
-fn from_purse(p: Purse, own: Name, m: Message) -> bool
-    ensures { λ r. ⌜ r ≡ when (eqb (m .details .payer .0) (own .0)) (payerOk p m) ⌝ }
+// Each message beside the records that it names, and against those before it that have its key; then the unused places.
+pub(crate) fn messages_ok(table: [Purse; 32], ether: Ether, purses: u8) -> bool
+    ensures { λ r. ⌜ r ≡ messagesOk purses table ether ⌝ }
 {
-    if m.details.payer.0 == own.0 {
-        payer_ok(p, m)
-    } else {
-        true
+    let count = ether.count as usize;
+    if 256 < count {
+        return false;
     }
-}
-
-fn message_beside(p: Purse, own: Name, m: Message) -> bool
-    ensures { λ r. ⌜ r ≡ messageBeside (own .0) p m ⌝ }
-{
-    to_purse(p, own, m) & from_purse(p, own, m)
-}
-
-pub(crate) fn each_beside(e: Ether, p: Purse, own: Name) -> bool
-    ensures { λ r. ⌜ r ≡ all (messageBeside (own .0) p) (standing e) ⌝ }
-{
-    let count = at_most(e.count as usize, 256);
-    let mut ok = true;
+    let mut keys: [u32; 256] = [0; 256];
     let mut i: usize = 0;
     while i < count {
-        let m = e.places[i];
-        ok = ok & message_beside(p, own, m);
+        let m = ether.places[i];
+        let a = place(m.details.payee);
+        let b = place(m.details.payer);
+        let payee = table[a];
+        let payer = table[b];
+        if !message_beside(payee, payer, m, purses) {
+            return false;
+        }
+        let k = key(m.kind, m.details);
+        let mut hit = false;
+        let mut s: usize = 0;
+        while s < i {
+            hit = hit | (k == keys[s]);
+            s += 1;
+        }
+        let again = if hit { is_before(ether, m, i) } else { false };
+        if again {
+            return false;
+        }
+        keys[i] = k;
+        i += 1;
+    }
+    let zero = Message::zero();
+    let mut ok = true;
+    while i < 256 {
+        let m = ether.places[i];
+        ok = ok & m.same(zero);
         i += 1;
     }
     ok

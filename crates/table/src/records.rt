@@ -2,10 +2,12 @@
 use crate::places::at_most;
 use crate::places::is_within;
 use purse::Details;
+use purse::Name;
 use purse::Purse;
+use refusals::form::well_formed;
 ghost use mathlib.Core.Path.{_≡_};
 ghost use Rattle.rules.specs.Laid.{isZeroPurse};
-ghost use Rattle.table.specs.Records.{namesOk, holds};
+ghost use Rattle.table.specs.Records.{namesOk, holds, recordOk, recordsOk};
 
 // Whether running details and log entries name purses of the table.
 pub(crate) fn names_ok(p: Purse, purses: u8) -> bool
@@ -55,4 +57,30 @@ pub(crate) fn is_zero(p: Purse) -> bool
         & (p.logged == 0)
         & p.details.same(zero)
         & ok
+}
+
+// The record at a place of the table, alone.
+fn record_ok(p: Purse, at: usize, purses: u8) -> bool
+    ensures { λ r. ⌜ r ≡ recordOk purses at p ⌝ }
+{
+    if at < purses as usize {
+        let own = Name(at as u8);
+        well_formed(p, own) & names_ok(p, purses)
+    } else {
+        is_zero(p)
+    }
+}
+
+// Each of the 32 records alone.
+pub(crate) fn records_ok(table: [Purse; 32], purses: u8) -> bool
+    ensures { λ r. ⌜ r ≡ recordsOk purses table ⌝ }
+{
+    let mut ok = true;
+    let mut i: usize = 0;
+    while i < 32 {
+        let p = table[i];
+        ok = ok & record_ok(p, i, purses);
+        i += 1;
+    }
+    ok
 }

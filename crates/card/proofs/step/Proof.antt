@@ -1,69 +1,32 @@
--- `card::step` meets its contract: event by event, what each step promises. Assumes nothing.
+-- `card::step` meets its contract: the record's test, then the act (`step-by-act`). Assumes nothing.
+use mathlib.Core.Path.{sym, _∙_}
+use Rattle.refusals.proofs.Act.{step-by-act}
 use borrow.Author.Needs.{needs}
 use Rattle.card.proofs.step.Statement.{statement}
 use Rattle.card.proofs.step.Tie as tie
 
-enum-known-event : tie.Need-enum-known-event
-enum-known-event c = search needs
+well-formed-requires : tie.Need-well-formed-requires
+well-formed-requires c κs = search needs
 
-start-from-requires : tie.Need-start-from-requires
-start-from-requires c κs = search needs
+act-requires : tie.Need-act-requires
+act-requires c κs = search needs
 
-enum-known-event-2 : tie.Need-enum-known-event-2
-enum-known-event-2 c = search needs
-
-start-to-requires : tie.Need-start-to-requires
-start-to-requires c κs = search needs
-
-enum-known-event-3 : tie.Need-enum-known-event-3
-enum-known-event-3 c = search needs
-
-deliver-requires : tie.Need-deliver-requires
-deliver-requires c κs = search needs
-
-enum-told : tie.Need-enum-told
-enum-told c = search needs
-
-abort-requires : tie.Need-abort-requires
-abort-requires c κs = search needs
-
-enum-told-2 : tie.Need-enum-told-2
-enum-told-2 c = search needs
-
-collect-requires : tie.Need-collect-requires
-collect-requires c κs = search needs
+refused-requires : tie.Need-refused-requires
+refused-requires c κs = search needs
 
 returns : tie.Need-returns
-returns c = cc
+returns c =
+    let start = c .before .before .before in
+    let p = start .args .purse in
+    let own = start .args .own in
+    c .act .ensures ∙ sym (step-by-act p own (start .args .event) ∙ rw (sym (c .before .before .well-formed .ensures) ∙ c .before .if1 .taken))
 
 returns-2 : tie.Need-returns-2
-returns-2 c = cc
-
-returns-3 : tie.Need-returns-3
-returns-3 c = cc
-
-returns-4 : tie.Need-returns-4
-returns-4 c = cc
-
-returns-5 : tie.Need-returns-5
-returns-5 c = cc
+returns-2 c =
+    let start = c .before .before .before in
+    let p = start .args .purse in
+    let own = start .args .own in
+    c .refused .ensures ∙ sym (step-by-act p own (start .args .event) ∙ rw (sym (c .before .before .well-formed .ensures) ∙ c .before .if1 .left))
 
 pub step-spec : {M : Type 1} → statement M
-step-spec =
-    tie.close
-    (tie.spec
-    enum-known-event
-    start-from-requires
-    enum-known-event-2
-    start-to-requires
-    enum-known-event-3
-    deliver-requires
-    enum-told
-    abort-requires
-    enum-told-2
-    collect-requires
-    returns
-    returns-2
-    returns-3
-    returns-4
-    returns-5)
+step-spec = tie.close (tie.spec well-formed-requires act-requires refused-requires returns returns-2)

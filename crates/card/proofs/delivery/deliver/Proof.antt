@@ -2,8 +2,8 @@
 -- what they require; else it is refused. Assumes nothing.
 use mathlib.Core.Path.{sym, _∙_}
 use Rattle.card.proofs.Cases.{done-at, refused-at, deliver-request, deliver-value, deliver-other}
-use Rattle.purse.specs.Step.{deliverNumber, deliverTo}
-use Rattle.purse.proofs.Steps.{deliver-pay, deliver-get}
+use Rattle.refusals.specs.Act.{deliverAct, actDeliver}
+use Rattle.refusals.proofs.Act.{deliver-pay, deliver-get}
 use borrow.Author.Needs.{needs}
 use Rattle.card.proofs.delivery.deliver.Statement.{statement}
 use Rattle.card.proofs.delivery.deliver.Tie as tie
@@ -30,34 +30,34 @@ refused-requires : tie.Need-refused-requires
 refused-requires c κs = search needs
 
 returns : tie.Need-returns
-unfolding deliverTo
+unfolding actDeliver
 returns c =
     c .pay .ensures ∙ sym
     (deliver-request (c .before .before .before .before .args .p) (c .before .before .before .before .args .m .kind) (c .before .match .keys1))
     ∙ sym
-    (done-at (c .before .before .before .before .args .p) (deliverNumber (c .before .before .before .before .args .p) (c .before .before .before .before .args .own) (c .before .before .before .before .args .m)) _ (c .before .before .before .deliver-number .ensures) (c .before .before .if1 .taken))
+    (done-at (c .before .before .before .before .args .p) (deliverAct (c .before .before .before .before .args .p) (c .before .before .before .before .args .own) (c .before .before .before .before .args .m)) _ (c .before .before .before .deliver-number .ensures) (c .before .before .if1 .taken))
 
 returns-2 : tie.Need-returns-2
-unfolding deliverTo
+unfolding actDeliver
 returns-2 c =
     c .receive .ensures ∙ sym
     (deliver-value (c .before .before .before .before .args .p) (c .before .before .before .before .args .m .kind) (c .before .match .keys2))
     ∙ sym
-    (done-at (c .before .before .before .before .args .p) (deliverNumber (c .before .before .before .before .args .p) (c .before .before .before .before .args .own) (c .before .before .before .before .args .m)) _ (c .before .before .before .deliver-number .ensures) (c .before .before .if1 .taken))
+    (done-at (c .before .before .before .before .args .p) (deliverAct (c .before .before .before .before .args .p) (c .before .before .before .before .args .own) (c .before .before .before .before .args .m)) _ (c .before .before .before .deliver-number .ensures) (c .before .before .if1 .taken))
 
 returns-3 : tie.Need-returns-3
-unfolding deliverTo
+unfolding actDeliver
 returns-3 c =
     c .settle .ensures ∙ sym
     (deliver-other (c .before .before .before .before .args .p) (c .before .before .before .before .args .m .kind) (c .before .match .rest .0 .1) (c .before .match .rest .1))
     ∙ sym
-    (done-at (c .before .before .before .before .args .p) (deliverNumber (c .before .before .before .before .args .p) (c .before .before .before .before .args .own) (c .before .before .before .before .args .m)) _ (c .before .before .before .deliver-number .ensures) (c .before .before .if1 .taken))
+    (done-at (c .before .before .before .before .args .p) (deliverAct (c .before .before .before .before .args .p) (c .before .before .before .before .args .own) (c .before .before .before .before .args .m)) _ (c .before .before .before .deliver-number .ensures) (c .before .before .if1 .taken))
 
 returns-4 : tie.Need-returns-4
-unfolding deliverTo
+unfolding actDeliver
 returns-4 c =
     c .refused .ensures ∙ sym
-    (refused-at (c .before .before .before .args .p) (deliverNumber (c .before .before .before .args .p) (c .before .before .before .args .own) (c .before .before .before .args .m)) _ (c .before .before .deliver-number .ensures) (c .before .if1 .left))
+    (refused-at (c .before .before .before .args .p) (deliverAct (c .before .before .before .args .p) (c .before .before .before .args .own) (c .before .before .before .args .m)) _ (c .before .before .deliver-number .ensures) (c .before .if1 .left))
 
 pub deliver-spec : {M : Type 1} → statement M
 deliver-spec =

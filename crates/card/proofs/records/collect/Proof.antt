@@ -1,7 +1,7 @@
 -- `card::records::collect` meets its contract: at number 0 the log holds an entry; else it is refused. Assumes nothing.
 use mathlib.Core.Path.{sym, _∙_}
-use Rattle.purse.specs.Step.{collectNumber, collectBy}
-use Rattle.purse.proofs.Steps.{collect-some}
+use Rattle.refusals.specs.Act.{collectAct, actCollect}
+use Rattle.refusals.proofs.Act.{collect-some}
 use Rattle.card.proofs.Cases.{handed, done-at, refused-at}
 use borrow.Author.Needs.{needs}
 use Rattle.card.proofs.records.collect.Statement.{statement}
@@ -28,17 +28,17 @@ refused-requires : tie.Need-refused-requires
 refused-requires c κs = search needs
 
 returns : tie.Need-returns
-unfolding collectBy
+unfolding actCollect
 returns c =
     c .gives .ensures ∙ handed (c .before .before .before .take-oldest .ensures) (c .before .before .zero .ensures)
     (c .before .oldest .ensures) ∙ sym
-    (done-at (c .before .before .before .before .before .before .args .p) (collectNumber (c .before .before .before .before .before .before .args .p) (c .before .before .before .before .before .before .args .own)) _ (c .before .before .before .before .before .collect-number .ensures) (c .before .before .before .before .if1 .taken))
+    (done-at (c .before .before .before .before .before .before .args .p) (collectAct (c .before .before .before .before .before .before .args .p) (c .before .before .before .before .before .before .args .own)) _ (c .before .before .before .before .before .collect-number .ensures) (c .before .before .before .before .if1 .taken))
 
 returns-2 : tie.Need-returns-2
-unfolding collectBy
+unfolding actCollect
 returns-2 c =
     c .refused .ensures ∙ sym
-    (refused-at (c .before .before .before .args .p) (collectNumber (c .before .before .before .args .p) (c .before .before .before .args .own)) _ (c .before .before .collect-number .ensures) (c .before .if1 .left))
+    (refused-at (c .before .before .before .args .p) (collectAct (c .before .before .before .args .p) (c .before .before .before .args .own)) _ (c .before .before .collect-number .ensures) (c .before .if1 .left))
 
 pub collect-spec : {M : Type 1} → statement M
 collect-spec =

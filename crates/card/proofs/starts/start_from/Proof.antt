@@ -5,8 +5,9 @@ use Rattle.purse.specs.declared.Details.{Details}
 use Rattle.purse.specs.Details.{zeroDetails, zeroMessage}
 use Rattle.purse.specs.Purse.{epr}
 use Rattle.card.proofs.Cases.{done-at, refused-at}
-use Rattle.purse.specs.Step.{done, begunWith, fromNumber, startFrom}
-use Rattle.purse.proofs.Steps.{ready-from}
+use Rattle.purse.specs.Step.{done, begunWith}
+use Rattle.refusals.specs.Act.{fromAct, actFrom}
+use Rattle.refusals.proofs.Act.{from-number}
 use borrow.Author.Needs.{needs}
 use Rattle.card.proofs.starts.start_from.Statement.{statement}
 use Rattle.card.proofs.starts.start_from.Tie as tie
@@ -19,9 +20,9 @@ from-details-requires c κs = search needs
 
 begun-requires : tie.Need-begun-requires
 begun-requires c κs =
-    ready-from (c .before .before .before .args .p) (c .before .before .before .args .own)
+    from-number (c .before .before .before .args .p) (c .before .before .before .args .own)
     (c .before .before .before .args .other) (c .before .before .before .args .amount)
-    (sym (c .before .before .from-number .ensures) ∙ c .before .if1 .taken) .number
+    (sym (c .before .before .from-number .ensures) ∙ c .before .if1 .taken)
 
 quiet-requires : tie.Need-quiet-requires
 quiet-requires c κs = search needs
@@ -30,18 +31,18 @@ refused-requires : tie.Need-refused-requires
 refused-requires c κs = search needs
 
 returns : tie.Need-returns
-unfolding startFrom
+unfolding actFrom
 returns c =
     c .quiet .ensures ∙ ap (λ (q : Purse). done q zeroMessage zeroDetails)
     (c .before .begun .ensures ∙ ap (λ (d : Details). begunWith epr d (c .before .before .before .before .before .args .p)) (c .before .before .from-details .ensures))
     ∙ sym
-    (done-at (c .before .before .before .before .before .args .p) (fromNumber (c .before .before .before .before .before .args .p) (c .before .before .before .before .before .args .own) (c .before .before .before .before .before .args .other) (c .before .before .before .before .before .args .amount)) _ (c .before .before .before .before .from-number .ensures) (c .before .before .before .if1 .taken))
+    (done-at (c .before .before .before .before .before .args .p) (fromAct (c .before .before .before .before .before .args .p) (c .before .before .before .before .before .args .own) (c .before .before .before .before .before .args .other) (c .before .before .before .before .before .args .amount)) _ (c .before .before .before .before .from-number .ensures) (c .before .before .before .if1 .taken))
 
 returns-2 : tie.Need-returns-2
-unfolding startFrom
+unfolding actFrom
 returns-2 c =
     c .refused .ensures ∙ sym
-    (refused-at (c .before .before .before .args .p) (fromNumber (c .before .before .before .args .p) (c .before .before .before .args .own) (c .before .before .before .args .other) (c .before .before .before .args .amount)) _ (c .before .before .from-number .ensures) (c .before .if1 .left))
+    (refused-at (c .before .before .before .args .p) (fromAct (c .before .before .before .args .p) (c .before .before .before .args .own) (c .before .before .before .args .other) (c .before .before .before .args .amount)) _ (c .before .before .from-number .ensures) (c .before .if1 .left))
 
 pub start-from-spec : {M : Type 1} → statement M
 start-from-spec =

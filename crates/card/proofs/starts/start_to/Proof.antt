@@ -4,8 +4,9 @@ use Rattle.purse.specs.declared.Details.{Details}
 use Rattle.purse.specs.Details.{zeroDetails}
 use Rattle.purse.specs.Purse.{epv}
 use Rattle.card.proofs.Cases.{done-at, refused-at}
-use Rattle.purse.specs.Step.{done, begunWith, toNumber, startTo}
-use Rattle.purse.proofs.Steps.{ready-to}
+use Rattle.purse.specs.Step.{done, begunWith}
+use Rattle.refusals.specs.Act.{toAct, actTo}
+use Rattle.refusals.proofs.Act.{to-number}
 use Rattle.purse.specs.Details.{request}
 use borrow.Author.Needs.{needs}
 use Rattle.card.proofs.starts.start_to.Statement.{statement}
@@ -19,26 +20,26 @@ to-details-requires c κs = search needs
 
 asks-requires : tie.Need-asks-requires
 asks-requires c κs =
-    ready-to (c .before .before .before .args .p) (c .before .before .before .args .own)
+    to-number (c .before .before .before .args .p) (c .before .before .before .args .own)
     (c .before .before .before .args .other) (c .before .before .before .args .amount)
-    (sym (c .before .before .to-number .ensures) ∙ c .before .if1 .taken) .number
+    (sym (c .before .before .to-number .ensures) ∙ c .before .if1 .taken)
 
 refused-requires : tie.Need-refused-requires
 refused-requires c κs = search needs
 
 returns : tie.Need-returns
-unfolding startTo
+unfolding actTo
 returns c =
     c .asks .ensures ∙ ap
     (λ (d : Details). done (begunWith epv d (c .before .before .before .before .args .p)) (record { kind = request; details = d }) zeroDetails)
     (c .before .to-details .ensures) ∙ sym
-    (done-at (c .before .before .before .before .args .p) (toNumber (c .before .before .before .before .args .p) (c .before .before .before .before .args .own) (c .before .before .before .before .args .other) (c .before .before .before .before .args .amount)) _ (c .before .before .before .to-number .ensures) (c .before .before .if1 .taken))
+    (done-at (c .before .before .before .before .args .p) (toAct (c .before .before .before .before .args .p) (c .before .before .before .before .args .own) (c .before .before .before .before .args .other) (c .before .before .before .before .args .amount)) _ (c .before .before .before .to-number .ensures) (c .before .before .if1 .taken))
 
 returns-2 : tie.Need-returns-2
-unfolding startTo
+unfolding actTo
 returns-2 c =
     c .refused .ensures ∙ sym
-    (refused-at (c .before .before .before .args .p) (toNumber (c .before .before .before .args .p) (c .before .before .before .args .own) (c .before .before .before .args .other) (c .before .before .before .args .amount)) _ (c .before .before .to-number .ensures) (c .before .if1 .left))
+    (refused-at (c .before .before .before .args .p) (toAct (c .before .before .before .args .p) (c .before .before .before .args .own) (c .before .before .before .args .other) (c .before .before .before .args .amount)) _ (c .before .before .to-number .ensures) (c .before .if1 .left))
 
 pub start-to-spec : {M : Type 1} → statement M
 start-to-spec =

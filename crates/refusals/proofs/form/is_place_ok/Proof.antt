@@ -1,4 +1,7 @@
--- `card::rules::is_place_ok` meets its contract: by what its tests promise. Assumes nothing.
+-- `refusals::form::is_place_ok` meets its contract: a used place by its tests, an unused one by its zeros. Assumes nothing.
+use native.Mathlib.Omega.{arith}
+use mathlib.Core.Bool.{or-false}
+use borrow.Author.Tests.{lt-ltb, lt-leb, le-ltb, le-leb}
 use Rattle.purse.specs.Purse.{placeOk}
 use borrow.Author.Needs.{needs}
 use Rattle.refusals.proofs.form.is_place_ok.Statement.{statement}
@@ -31,7 +34,14 @@ same-requires-2 c κs = search needs
 returns : tie.Need-returns
 unfolding placeOk
 returns c =
-    rw (c .same2 .ensures, c .before .zero .ensures, c .before .before .is-absent .ensures, c .before .before .before .same .ensures, c .before .before .before .before .is-entry .ensures)
+    let start = c .before .before .before .before .before .before .before in
+    rw (c .is-absent .ensures, c .before .same .ensures, c .before .before .is-entry .ensures, lt-ltb (start .args .i) (start .args .p .logged) (omega arith), lt-leb (start .args .p .logged) (start .args .i) (omega arith), or-false)
+
+returns-2 : tie.Need-returns-2
+unfolding placeOk
+returns-2 c =
+    let start = c .before .before .before .before .before .before in
+    rw (c .same2 .ensures, c .before .zero .ensures, le-ltb (start .args .i) (start .args .p .logged) (omega arith), le-leb (start .args .p .logged) (start .args .i) (omega arith))
 
 pub is-place-ok-spec : {M : Type 1} → statement M
 is-place-ok-spec =
@@ -45,4 +55,5 @@ is-place-ok-spec =
     is-absent-requires
     zero-requires
     same-requires-2
-    returns)
+    returns
+    returns-2)

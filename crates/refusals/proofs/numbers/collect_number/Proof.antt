@@ -1,24 +1,23 @@
--- `card::numbers::collect_number` meets its contract: one test more than `abort_number` (`more`). Assumes nothing.
+-- `refusals::numbers::collect_number` meets its contract: two tests, taken one by one (`two-walk`). Assumes nothing.
 use mathlib.Core.Path.{refl}
-use Rattle.purse.proofs.Tests.{more}
-use Rattle.purse.specs.Step.{ownTests, abortNumber, collectNumber}
-use lib.Dec.{eqb}
+use lib.Dec.{ltb, eqb}
+use Rattle.refusals.specs.Act.{collectAct}
+use Rattle.refusals.proofs.Ladders.{two-walk}
 use borrow.Author.Needs.{needs}
 use Rattle.refusals.proofs.numbers.collect_number.Statement.{statement}
 use Rattle.refusals.proofs.numbers.collect_number.Tie as tie
 
-abort-number-requires : tie.Need-abort-number-requires
-abort-number-requires c κs = search needs
-
 tested-requires : tie.Need-tested-requires
 tested-requires c κs = search needs
 
+tested-requires-2 : tie.Need-tested-requires-2
+tested-requires-2 c κs = search needs
+
 returns : tie.Need-returns
-unfolding abortNumber collectNumber
+unfolding collectAct
 returns c =
-    more (ownTests (c .before .before .before .args .p) (c .before .before .before .args .own))
-    (eqb (c .before .before .before .args .p .logged) 0) 14 refl (c .before .before .abort-number .ensures)
-    (c .tested .ensures)
+    let start = c .before .before .before .before in
+    two-walk (ltb 31 (start .args .own .0)) (eqb (start .args .p .logged) 0) 4 14 refl (c .before .before .tested .ensures) (c .tested2 .ensures)
 
 pub collect-number-spec : {M : Type 1} → statement M
-collect-number-spec = tie.close (tie.spec abort-number-requires tested-requires returns)
+collect-number-spec = tie.close (tie.spec tested-requires tested-requires-2 returns)

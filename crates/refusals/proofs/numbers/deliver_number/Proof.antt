@@ -1,28 +1,45 @@
--- `card::numbers::deliver_number` meets its contract: one test more than `abort_number` (`more`). Assumes nothing.
+-- `refusals::numbers::deliver_number` meets its contract: three tests, taken one by one (`three-walk`). Assumes nothing.
 use mathlib.Core.Path.{refl}
-use Rattle.purse.proofs.Tests.{more}
-use Rattle.purse.specs.Step.{ownTests, expected, abortNumber, deliverNumber}
 use mathlib.Core.Bool.{not}
+use lib.Dec.{ltb}
+use Rattle.purse.specs.Step.{expected}
+use Rattle.refusals.specs.Act.{fits, deliverAct}
+use Rattle.refusals.proofs.Ladders.{three-walk}
 use borrow.Author.Needs.{needs}
 use Rattle.refusals.proofs.numbers.deliver_number.Statement.{statement}
 use Rattle.refusals.proofs.numbers.deliver_number.Tie as tie
 
-abort-number-requires : tie.Need-abort-number-requires
-abort-number-requires c κs = search needs
+tested-requires : tie.Need-tested-requires
+tested-requires c κs = search needs
 
 expects-requires : tie.Need-expects-requires
 expects-requires c κs = search needs
 
-tested-requires : tie.Need-tested-requires
-tested-requires c κs = search needs
+tested-requires-2 : tie.Need-tested-requires-2
+tested-requires-2 c κs = search needs
+
+fits-requires : tie.Need-fits-requires
+fits-requires c κs = search needs
+
+tested-requires-3 : tie.Need-tested-requires-3
+tested-requires-3 c κs = search needs
 
 returns : tie.Need-returns
-unfolding abortNumber deliverNumber
+unfolding deliverAct
 returns c =
-    more (ownTests (c .before .before .before .args .p) (c .before .before .before .args .own))
-    (not (expected (c .before .before .before .args .p) (c .before .before .before .args .m))) 13 refl
-    (c .before .before .abort-number .ensures) (rw (c .before .expects .ensures) at (c .tested .ensures))
+    let start = c .before .before .before .before .before .before in
+    let p = start .args .p in
+    let m = start .args .m in
+    three-walk (ltb 31 (start .args .own .0)) (not (expected p m)) (not (fits p (m .kind))) 4 13 2 refl (c .before .before .before .before .tested .ensures)
+    (rw (c .before .before .before .expects .ensures) at (c .before .before .tested2 .ensures)) (rw (c .before .fits2 .ensures) at (c .tested3 .ensures))
 
 pub deliver-number-spec : {M : Type 1} → statement M
 deliver-number-spec =
-    tie.close (tie.spec abort-number-requires expects-requires tested-requires returns)
+    tie.close
+    (tie.spec
+    tested-requires
+    expects-requires
+    tested-requires-2
+    fits-requires
+    tested-requires-3
+    returns)

@@ -1,7 +1,8 @@
 -- `card::numbers::to_number` meets its contract: one test more than `start_number` (`more`); the sum is taken in wider numbers, so it does not wrap. Assumes nothing.
 use mathlib.Core.Path.{refl}
 use Rattle.purse.proofs.Tests.{more}
-use Rattle.purse.specs.Step.{startTests, startNumber, toNumber}
+use Rattle.purse.specs.Step.{startTests}
+use Rattle.refusals.specs.Act.{behind, startAct, toAct}
 use lib.Dec.{ltb}
 use Prim.Native.Nat.{_+_}
 use Rattle.purse.specs.Purse.{ceiling}
@@ -31,10 +32,10 @@ tested-requires : tie.Need-tested-requires
 tested-requires c κs = search needs
 
 returns : tie.Need-returns
-unfolding startNumber toNumber
+unfolding startAct toAct
 returns c =
     more
-    (startTests (c .before .before .before .before .before .args .p) (c .before .before .before .before .before .args .own) (c .before .before .before .before .before .args .other) (c .before .before .before .before .before .args .amount))
+    (behind (startTests (c .before .before .before .before .before .args .p) (c .before .before .before .before .before .args .own) (c .before .before .before .before .before .args .other) (c .before .before .before .before .before .args .amount)))
     (ltb (ceiling (c .before .before .before .before .before .args .p)) (c .before .before .before .before .before .args .p .balance .0 + c .before .before .before .before .before .args .amount .0))
     12 refl (c .before .before .before .before .start-number .ensures)
     (rw (c .before .before .before .ceiling .ensures) at (c .tested .ensures))

@@ -3,15 +3,19 @@ use borrow.Author.Needs.{needs}
 use Rattle.table.proofs.messages.message_beside.Statement.{statement}
 use Rattle.table.proofs.messages.message_beside.Tie as tie
 
-to-purse-requires : tie.Need-to-purse-requires
-to-purse-requires c κs = search needs
+message-alone-requires : tie.Need-message-alone-requires
+message-alone-requires c κs = search needs
 
-from-purse-requires : tie.Need-from-purse-requires
-from-purse-requires c κs = search needs
+payee-ok-requires : tie.Need-payee-ok-requires
+payee-ok-requires c κs = search needs
+
+payer-ok-requires : tie.Need-payer-ok-requires
+payer-ok-requires c κs = search needs
 
 returns : tie.Need-returns
 unfolding messageBeside
-returns c = cc
+returns c = rw (c .before .before .message-alone .ensures, c .before .payee-ok .ensures, c .payer-ok .ensures)
 
 pub message-beside-spec : {M : Type 1} → statement M
-message-beside-spec = tie.close (tie.spec to-purse-requires from-purse-requires returns)
+message-beside-spec =
+    tie.close (tie.spec message-alone-requires payee-ok-requires payer-ok-requires returns)
