@@ -1,0 +1,86 @@
+// The bench's entries: "The bench owns a table of 32 purse records, lent to each call." Each is thin: an event steps one record by value and stores
+// it back; the others work on the table copied out. What each does is the bench's own definition, over the lent table beside the desk.
+use desk::Desk;
+use desk::Figure;
+use purse::Purse;
+use walk_table::copied;
+use walk_table::replaced;
+use walk_table::table_ok;
+use steps::acted;
+use steps::kept;
+use steps::opened;
+use steps::owed;
+use steps::place;
+use steps::ran;
+ghost use mathlib.Core.Path.{_≡_};
+ghost use mathlib.Core.List.{_++_};
+ghost use lib.ListN.{drop};
+ghost use Rattle.rules.specs.Laid.{heldStep, heldOpening, heldClaims, heldRun, heldAnswers};
+ghost use Rattle.bench.specs.Runs.{pieces, taken};
+ghost use Rattle.walk_table.specs.Lent.{held};
+
+mod steps; // steps.rt: the bench's steps by value, as the entries call them
+
+// An event, over a table and a desk that are both lent.
+#[no_mangle]
+pub extern "C" fn prs_event(table: &mut [Purse], desk: &mut Desk, event: &[u8]) -> u8
+    ensures { λ r.
+        ⌜ (r ≡ heldStep (held (now (table .entry)) (now (desk .entry))) (now (event .entry)) .answer)
+        × (now (table .exit) ≡ heldStep (held (now (table .entry)) (now (desk .entry))) (now (event .entry)) .held .table)
+        × (now (desk .exit) ≡ heldStep (held (now (table .entry)) (now (desk .entry))) (now (event .entry)) .held .desk) ⌝ }
+{
+    let d = *desk;
+    if !table_ok(table, d) {
+        return 2;
+    }
+    let at = place(event);
+    let done = acted(table[at], d, event);
+    table[at] = done.purse;
+    *desk = done.desk;
+    done.answer
+}
+
+// The claims figure, over a table and a desk that are both lent.
+#[no_mangle]
+pub extern "C" fn prs_claims(table: &[Purse], desk: &Desk) -> Figure
+    ensures { λ r. ⌜ r ≡ heldClaims (held (now (table .entry)) (now (desk .entry))) ⌝ }
+{
+    owed(copied(table), *desk)
+}
+
+// A bench opened with these balances, over a table and a desk that are both lent.
+#[no_mangle]
+pub extern "C" fn prs_opening(table: &mut [Purse], desk: &mut Desk, balances: &[u32]) -> u8
+    ensures { λ r.
+        ⌜ (r ≡ heldOpening (held (now (table .entry)) (now (desk .entry))) (now (balances .entry)) .answer)
+        × (now (table .exit) ≡ heldOpening (held (now (table .entry)) (now (desk .entry))) (now (balances .entry)) .held .table)
+        × (now (desk .exit) ≡ heldOpening (held (now (table .entry)) (now (desk .entry))) (now (balances .entry)) .held .desk) ⌝ }
+{
+    let d = *desk;
+    let by = opened(copied(table), d, balances);
+    let left = replaced(table, d, by);
+    *desk = left.desk;
+    left.answer
+}
+
+// The whole events of a list, as many as there are places for answers, over a table and a desk that are both lent; how many were taken.
+#[no_mangle]
+pub extern "C" fn prs_run(
+    table: &mut [Purse],
+    desk: &mut Desk,
+    list: &[u8],
+    answers: &mut [u8],
+) -> usize
+    ensures { λ r.
+        ⌜ (r ≡ taken (now (list .entry)) (now (answers .entry)))
+        × (now (table .exit) ≡ heldRun (held (now (table .entry)) (now (desk .entry))) (pieces (taken (now (list .entry)) (now (answers .entry))) (now (list .entry))) .table)
+        × (now (desk .exit) ≡ heldRun (held (now (table .entry)) (now (desk .entry))) (pieces (taken (now (list .entry)) (now (answers .entry))) (now (list .entry))) .desk)
+        × (now (answers .exit) ≡ heldAnswers (held (now (table .entry)) (now (desk .entry))) (pieces (taken (now (list .entry)) (now (answers .entry))) (now (list .entry)))
+        ++ drop (taken (now (list .entry)) (now (answers .entry))) (now (answers .entry))) ⌝ }
+{
+    let d = *desk;
+    let by = ran(copied(table), d, list, answers);
+    let left = replaced(table, d, kept(by));
+    *desk = left.desk;
+    by.taken
+}

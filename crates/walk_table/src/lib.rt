@@ -1,0 +1,93 @@
+// The records of a lent table, all of them: tested, copied out to be worked on by value, and replaced. "The bench owns a table of 32 purse records,
+// lent to each call."
+use desk::Answered;
+use desk::Desk;
+use desk::Held;
+use purse::Purse;
+use table::held_ok;
+ghost use mathlib.Core.Path.{_≡_};
+ghost use lib.ListN.{replicate};
+ghost use Rattle.purse.specs.Purse.{zeroPurse};
+ghost use Rattle.rules.specs.Laid.{heldOk};
+ghost use Rattle.walk_table.specs.Lent.{held, copiedOf, replacedOf};
+
+// What an entry answers, and the desk as it then stands.
+#[repr(C)]
+pub struct Reply {
+    pub answer: u8,
+    pub desk: Desk,
+}
+
+// A table of unused records.
+fn unused() -> [Purse; 32]
+    ensures { λ r. ⌜ r ≡ replicate 32 zeroPurse ⌝ }
+{
+    let z = Purse::zero();
+    [z; 32]
+}
+
+// The records of a lent table of 32. For another length a table of unused records, which breaks the rules.
+pub fn copied(table: &[Purse]) -> [Purse; 32]
+    ensures { λ r. ⌜ r ≡ copiedOf (now (table .entry)) ⌝ }
+{
+    let mut all = unused();
+    if table.len() != 32 {
+        return all;
+    }
+    let mut i = 0;
+    while i < 32 {
+        all[i] = table[i];
+        i = i + 1;
+    }
+    all
+}
+
+// Whether a table and a desk obey the rules, by value.
+fn all_ok(table: [Purse; 32], desk: Desk) -> bool
+    ensures { λ r. ⌜ r ≡ heldOk (held table desk) ⌝ }
+{
+    let all = Held {
+        table: table,
+        desk: desk,
+    };
+    held_ok(all)
+}
+
+// Whether a lent table and a desk obey the rules: the records are copied out, and tested with the desk. Another length than 32 is copied as a
+// table of unused records, which breaks them.
+pub fn table_ok(table: &[Purse], desk: Desk) -> bool
+    ensures { λ r. ⌜ r ≡ heldOk (held (now (table .entry)) desk) ⌝ }
+{
+    all_ok(copied(table), desk)
+}
+
+// The table of what was answered.
+fn table_of(by: Answered) -> [Purse; 32]
+    ensures { λ r. ⌜ r ≡ by .held .table ⌝ }
+{
+    let held = by.held;
+    held.table
+}
+
+// What was answered by value is stored in a lent table of 32; another length is refused, and the table stays.
+pub fn replaced(table: &mut [Purse], desk: Desk, by: Answered) -> Reply
+    ensures { λ r. ⌜ (r ≡ replacedOf (now (table .entry)) desk by .reply) × (now (table .exit) ≡ replacedOf (now (table .entry)) desk by .table) ⌝ }
+{
+    if table.len() != 32 {
+        return Reply {
+            answer: 2,
+            desk: desk,
+        };
+    }
+    let from = table_of(by);
+    let mut to = 0;
+    while to < 32 {
+        table[to] = from[to];
+        to = to + 1;
+    }
+    let d = by.held.desk;
+    Reply {
+        answer: by.answer,
+        desk: d,
+    }
+}
