@@ -54,7 +54,7 @@ pub fn place_of(event: Event) -> usize
 }
 
 // The place of the message that an event delivers; past the last place where it delivers none.
-pub(crate) fn delivered_at(event: Event) -> usize
+pub fn delivered_at(event: Event) -> usize
     ensures { λ r. ⌜ r ≡ deliveredAt event ⌝ }
 {
     match event {
@@ -181,7 +181,7 @@ fn collect(n: u8, p: Purse, entries: u16, own: Name) -> Chosen
 }
 
 // What an event chooses at its record p and what is seen of the desk.
-pub(crate) fn choose(p: Purse, seen: Seen, event: Event) -> Chosen
+pub fn choose(p: Purse, seen: Seen, event: Event) -> Chosen
     ensures { λ r. ⌜ r ≡ chosen p seen event ⌝ }
 {
     match event {

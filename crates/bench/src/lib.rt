@@ -13,6 +13,8 @@ mod runs; // runs.rt: many events
 mod step; // step.rt: an event at the whole bench
 
 pub use acts::act;
+pub use acts::choose;
+pub use acts::delivered_at;
 pub use acts::place_of;
 pub use events::decode;
 pub use open::opening;

@@ -1,16 +1,16 @@
 // The bench's entries: "The bench owns a table of 32 purse records, lent to each call." Each is thin: an event steps one record by value and stores
 // it back; the others work on the table copied out. What each does is the bench's own definition, over the lent table beside the desk.
+use deeds::place;
 use desk::Desk;
 use desk::Figure;
 use purse::Purse;
+use walk_desk::written_at;
 use walk_table::copied;
 use walk_table::replaced;
 use walk_table::table_ok;
-use steps::acted;
 use steps::kept;
 use steps::opened;
 use steps::owed;
-use steps::place;
 use steps::ran;
 ghost use mathlib.Core.Path.{_≡_};
 ghost use mathlib.Core.List.{_++_};
@@ -29,15 +29,13 @@ pub extern "C" fn prs_event(table: &mut [Purse], desk: &mut Desk, event: &[u8]) 
         × (now (table .exit) ≡ heldStep (held (now (table .entry)) (now (desk .entry))) (now (event .entry)) .held .table)
         × (now (desk .exit) ≡ heldStep (held (now (table .entry)) (now (desk .entry))) (now (event .entry)) .held .desk) ⌝ }
 {
-    let d = *desk;
-    if !table_ok(table, d) {
+    if !table_ok(table, *desk) {
         return 2;
     }
     let at = place(event);
-    let done = acted(table[at], d, event);
-    table[at] = done.purse;
-    *desk = done.desk;
-    done.answer
+    let d = written_at(desk, table[at], event);
+    table[at] = d.purse;
+    d.answer
 }
 
 // The claims figure, over a table and a desk that are both lent.

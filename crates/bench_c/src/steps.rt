@@ -1,10 +1,6 @@
 // The bench's steps by value, as the entries call them: an event's bytes in place of the event, a table and a desk in place of what both make.
-use bench::Acted;
 use bench::Ran;
-use bench::act;
-use bench::decode;
 use bench::opening;
-use bench::place_of;
 use bench::run;
 use claims::claims;
 use desk::Answered;
@@ -15,25 +11,9 @@ use purse::Purse;
 ghost use mathlib.Core.Path.{_≡_};
 ghost use mathlib.Core.List.{_++_};
 ghost use lib.ListN.{drop};
-ghost use Rattle.rules.specs.Events.{decoded};
 ghost use Rattle.rules.specs.Laid.{heldOpening, heldClaims, heldRun, heldAnswers};
-ghost use Rattle.bench.specs.Acts.{placeOf, actOn};
 ghost use Rattle.bench.specs.Runs.{pieces, taken};
 ghost use Rattle.walk_table.specs.Lent.{held};
-
-// The place of the record that an event names, below 32.
-pub(crate) fn place(event: &[u8]) -> usize
-    ensures { λ r. ⌜ r ≡ placeOf (decoded (now (event .entry))) ⌝ }
-{
-    place_of(decode(event))
-}
-
-// What an event does at that record.
-pub(crate) fn acted(p: Purse, desk: Desk, event: &[u8]) -> Acted
-    ensures { λ r. ⌜ r ≡ actOn p desk (decoded (now (event .entry))) ⌝ }
-{
-    act(p, desk, decode(event))
-}
 
 pub(crate) fn opened(table: [Purse; 32], desk: Desk, balances: &[u32]) -> Answered
     ensures { λ r. ⌜ r ≡ heldOpening (held table desk) (now (balances .entry)) ⌝ }

@@ -1,7 +1,7 @@
 -- An event's bytes are read, and the bench's own function is called. Assumes nothing.
 use borrow.Author.Needs.{needs}
-use Rattle.bench_c.proofs.steps.place.Statement.{statement}
-use Rattle.bench_c.proofs.steps.place.Tie as tie
+use Rattle.deeds.proofs.place.Statement.{statement}
+use Rattle.deeds.proofs.place.Tie as tie
 
 decode-requires : tie.Need-decode-requires
 decode-requires c κs = search needs

@@ -1,0 +1,115 @@
+-- What an event's deed leaves, written in its places, is what the bench's step leaves: a place that the deed writes as it stood is no change
+-- (`set-getD`), and each change has its own place behind those that stand. Assumes nothing.
+use mathlib.Core.Path.{_≡_, refl, sym, ap, _∙_}
+use mathlib.Core.Bool.{Bool, true, false}
+use mathlib.Core.Logic.{inl, inr, ⊎-elim}
+use Prim.Native.Nat.{ℕ, _<_, _≤_}
+use native.Mathlib.Omega.{arith}
+use mathlib.Core.List.{List}
+use lib.ListN.{length, getD, set, List·getD-eq-default}
+use lib.Seq.{set-getD}
+use lib.Dec.{ltb, eqb}
+use borrow.Author.Tests.{ltb-true, ltb-false, lt-ltb, le-ltb}
+use Rattle.purse.specs.declared.Message.{Message}
+use Rattle.purse.specs.declared.Purse.{Purse}
+use Rattle.purse.specs.Details.{zeroMessage}
+use Rattle.purse.proofs.Bools.{which}
+use Rattle.desk.specs.declared.Entry.{Entry}
+use Rattle.desk.specs.declared.Desk.{Desk}
+use Rattle.desk.specs.Desk.{zeroEntry, added, takenOut, stored}
+use Rattle.rules.specs.declared.Event.{Event}
+use Rattle.bench.specs.declared.Seen.{Seen}
+use Rattle.bench.specs.declared.Change.{Change}
+use Rattle.bench.specs.declared.Change.the-variants.{Nothing, Send, Lose, Store}
+use Rattle.bench.specs.declared.Chosen.{Chosen}
+use Rattle.bench.specs.declared.Acted.{Acted}
+use Rattle.bench.specs.Acts.{deliveredAt, seenAt, chosen, carriedOut, refusedOn, settled, actOn, withEther, withArchive}
+use Rattle.deeds.specs.declared.Deed.{Deed}
+use Rattle.deeds.specs.Deeds.{within, seenWith, deskStays, doing, deedBy, deedAt, deskAfter}
+
+pub within-less : (n : ℕ) → within n < 256
+unfolding within
+within-less n = elim (which (ltb n 256)) [ inl p ↦ rw p (ltb-true n 256 p) | inr p ↦ rw p (omega arith) ]
+
+within-is : (n : ℕ) → ltb n 256 ≡ true → within n ≡ n
+unfolding within
+within-is n p = rw p
+
+-- what stands at the place within which an event delivers is what its tests read
+seen-lent : (d : Desk) (e : Event) → length (d .ether .places) ≡ 256
+    → seenWith (d .purses) (d .ether .count) (d .archive .count) (getD (d .ether .places) (within (deliveredAt e)) zeroMessage) e ≡ seenAt d (deliveredAt e)
+unfolding within seenWith
+seen-lent d e long =
+    elim (which (ltb (deliveredAt e) 256)) [
+      inl p ↦ rw p
+    | inr p ↦ rw (p, List·getD-eq-default (d .ether .places) zeroMessage {n = deliveredAt e} (omega (arith, long, ltb-false (deliveredAt e) 256 p)))
+    ]
+
+-- the record and the desk that a deed leaves
+abbrev pub actedBy : Desk → Deed → Acted
+actedBy d c = record { answer = c .answer; purse = c .purse; desk = deskAfter d c }
+
+module _ (d : Desk) where
+  -- what stands behind the messages and behind the entries
+  abbrev last : Message
+  last = getD (d .ether .places) (within (d .ether .count)) zeroMessage
+
+  abbrev entry : Entry
+  entry = getD (d .archive .places) (within (d .archive .count)) zeroEntry
+
+  abbrev same-messages : set (d .ether .places) (within (d .ether .count)) last ≡ d .ether .places
+  same-messages = set-getD (d .ether .places) (within (d .ether .count)) zeroMessage
+
+  abbrev same-entries : set (d .archive .places) (within (d .archive .count)) entry ≡ d .archive .places
+  same-entries = set-getD (d .archive .places) (within (d .archive .count)) zeroEntry
+
+  module _ (i : ℕ) where
+    abbrev s : Seen
+    s = seenAt d i
+
+    stays-so : (n : ℕ) (q : Purse) → actedBy d (deskStays n q s last entry) ≡ record { answer = n; purse = q; desk = d }
+    unfolding deskStays deskAfter
+    stays-so n q = rw (same-messages, same-entries)
+
+    sends-so : (q : Purse) (m : Message) → ltb (d .ether .count) 256 ≡ true → actedBy d (doing q s last entry (Send m)) ≡ carriedOut q d (Send m)
+    unfolding doing carriedOut added deskAfter
+    sends-so q m p = rw (p, within-is (d .ether .count) p, same-entries)
+
+    sends-lost : (q : Purse) (m : Message) → ltb (d .ether .count) 256 ≡ false → actedBy d (doing q s last entry (Send m)) ≡ carriedOut q d (Send m)
+    unfolding doing carriedOut added
+    sends-lost q m p = rw p (stays-so 1 q)
+
+    stores-so : (q : Purse) (e : Entry) → ltb (d .archive .count) 256 ≡ true → actedBy d (doing q s last entry (Store e)) ≡ carriedOut q d (Store e)
+    unfolding doing carriedOut stored deskAfter
+    stores-so q e p = rw (p, within-is (d .archive .count) p, same-messages)
+
+    stores-not : (q : Purse) (e : Entry) → ltb (d .archive .count) 256 ≡ false → actedBy d (doing q s last entry (Store e)) ≡ carriedOut q d (Store e)
+    unfolding doing carriedOut stored
+    stores-not q e p = rw p (stays-so 0 q)
+
+    loses-so : (q : Purse) (k : ℕ) → actedBy d (doing q s last entry (Lose k)) ≡ carriedOut q d (Lose k)
+    unfolding doing carriedOut deskAfter
+    loses-so q k = rw (same-messages, same-entries)
+
+    stays-too : (q : Purse) → actedBy d (doing q s last entry Nothing) ≡ carriedOut q d Nothing
+    unfolding doing carriedOut
+    stays-too q = stays-so 0 q
+
+    does-so : (q : Purse) (c : Change) → actedBy d (doing q s last entry c) ≡ carriedOut q d c
+    does-so q Nothing = stays-too q
+    does-so q (Send m) = ⊎-elim (sends-so q m) (sends-lost q m) (which (ltb (d .ether .count) 256))
+    does-so q (Lose k) = loses-so q k
+    does-so q (Store e) = ⊎-elim (stores-so q e) (stores-not q e) (which (ltb (d .archive .count) 256))
+
+  acts-so : (p : Purse) (e : Event) → actedBy d (deedBy p (seenAt d (deliveredAt e)) last entry e) ≡ actOn p d e
+  unfolding deedBy settled actOn
+  acts-so p e =
+      elim (which (eqb (chosen p (seenAt d (deliveredAt e)) e .answer) 0)) [
+        inl z ↦ rw z (does-so (deliveredAt e) (chosen p (seenAt d (deliveredAt e)) e .purse) (chosen p (seenAt d (deliveredAt e)) e .change))
+      | inr z ↦ rw z (stays-so (deliveredAt e) (chosen p (seenAt d (deliveredAt e)) e .answer) p)
+      ]
+
+-- an event's deed, written, is the bench's step at its record and the desk
+pub deed-acts : (p : Purse) (d : Desk) (e : Event) → length (d .ether .places) ≡ 256 → actedBy d (deedAt p d e) ≡ actOn p d e
+unfolding deedAt
+deed-acts p d e long = rw (seen-lent d e long) (acts-so d p e)

@@ -1,0 +1,40 @@
+-- `deeds::seen` meets its contract. Assumes nothing.
+use mathlib.Core.Path.{_≡_}
+use Prim.Native.Nat.{ℕ, _<_, _≤_}
+use native.Mathlib.Omega.{arith}
+use borrow.Author.Tests.{lt-ltb, le-ltb}
+use Rattle.purse.specs.declared.Message.{Message}
+use Rattle.purse.specs.Details.{zeroMessage}
+use Rattle.rules.specs.declared.Event.{Event}
+use Rattle.bench.specs.declared.Seen.{Seen}
+use Rattle.bench.specs.Acts.{deliveredAt}
+use Rattle.deeds.specs.Deeds.{seenWith}
+use borrow.Author.Needs.{needs}
+use Rattle.deeds.proofs.seen.Statement.{statement}
+use Rattle.deeds.proofs.seen.Tie as tie
+
+abbrev looked : ℕ → ℕ → ℕ → Message → Seen
+looked u v w m = record { purses = u; messages = v; entries = w; message = m }
+
+there : (u v w : ℕ) (m : Message) (e : Event) (at : ℕ) → at ≡ deliveredAt e → at < 256 → looked u v w m ≡ seenWith u v w m e
+unfolding seenWith
+there u v w m e at is less = rw (lt-ltb (deliveredAt e) 256 (omega (arith, is, less)))
+
+past : (u v w : ℕ) (m z : Message) (e : Event) (at : ℕ) → at ≡ deliveredAt e → 256 ≤ at → z ≡ zeroMessage → looked u v w z ≡ seenWith u v w m e
+unfolding seenWith
+past u v w m z e at is more zero = rw (le-ltb (deliveredAt e) 256 (omega (arith, is, more)), zero)
+
+delivered-at-requires : tie.Need-delivered-at-requires
+delivered-at-requires c κs = search needs
+
+zero-requires : tie.Need-zero-requires
+zero-requires c κs = search needs
+
+returns : tie.Need-returns
+returns c = there _ _ _ _ _ _ (c .before .delivered-at .ensures) (c .if1 .taken)
+
+returns-2 : tie.Need-returns-2
+returns-2 c = past _ _ _ _ _ _ _ (c .before .before .delivered-at .ensures) (c .before .if1 .left) (c .zero .ensures)
+
+pub seen-spec : {M : Type 1} → statement M
+seen-spec = tie.close (tie.spec delivered-at-requires zero-requires returns returns-2)

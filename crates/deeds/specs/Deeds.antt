@@ -1,0 +1,117 @@
+-- What an event writes in a lent table and desk, place by place, so that nothing else is moved: its record, the place behind the messages
+-- and the place behind the entries, with both counts; a loss moves the later messages down. What an event leaves as it was is written as
+-- it stood. That this is the bench's step is `deed-acts` in proofs/.
+use Prim.Native.Nat.{ℕ, _+_}
+use mathlib.Core.Bool.{Bool, true, false, cond}
+use mathlib.Core.List.{List}
+use lib.ListN.{getD, set}
+use lib.Dec.{ltb, eqb}
+use Rattle.purse.specs.declared.Message.{Message}
+use Rattle.purse.specs.declared.Purse.{Purse}
+use Rattle.purse.specs.Details.{zeroMessage}
+use Rattle.desk.specs.declared.Entry.{Entry}
+use Rattle.desk.specs.declared.Desk.{Desk}
+use Rattle.desk.specs.Desk.{places, zeroEntry, takenOut}
+use Rattle.rules.specs.declared.Event.{Event}
+use Rattle.bench.specs.declared.Seen.{Seen}
+use Rattle.bench.specs.declared.Change.{Change}
+use Rattle.bench.specs.declared.Change.the-variants.{Nothing, Send, Lose, Store}
+use Rattle.bench.specs.Acts.{deliveredAt, chosen, withEther}
+use Rattle.deeds.specs.declared.Deed.{Deed}
+
+-- the place n, or the last place where n is past all
+unfoldable pub within : ℕ → ℕ
+within n = cond (ltb n places) n 255
+
+-- what an event's tests read: m stands at the place within which it delivers
+unfoldable pub seenWith : ℕ → ℕ → ℕ → Message → Event → Seen
+seenWith purses messages entries m e =
+    record {
+      purses = purses;
+      messages = messages;
+      entries = entries;
+      message = cond (ltb (deliveredAt e) places) m zeroMessage;
+    }
+
+-- the record is q, and the desk stays
+unfoldable pub deskStays : ℕ → Purse → Seen → Message → Entry → Deed
+deskStays n q s last entry =
+    record {
+      answer = n;
+      purse = q;
+      message = last;
+      messages = s .messages;
+      entry = entry;
+      entries = s .entries;
+      loses = false;
+      place = 0;
+    }
+
+-- a change, q being the record's next state
+unfoldable pub doing : Purse → Seen → Message → Entry → Change → Deed
+doing q s last entry Nothing = deskStays 0 q s last entry
+doing q s last entry (Send m) =
+    cond (ltb (s .messages) places)
+    (record {
+      answer = 0;
+      purse = q;
+      message = m;
+      messages = s .messages + 1;
+      entry = entry;
+      entries = s .entries;
+      loses = false;
+      place = 0;
+    })
+    (deskStays 1 q s last entry)
+doing q s last entry (Lose i) =
+    record {
+      answer = 0;
+      purse = q;
+      message = last;
+      messages = s .messages;
+      entry = entry;
+      entries = s .entries;
+      loses = true;
+      place = i;
+    }
+doing q s last entry (Store e) =
+    cond (ltb (s .entries) places)
+    (record {
+      answer = 0;
+      purse = q;
+      message = last;
+      messages = s .messages;
+      entry = e;
+      entries = s .entries + 1;
+      loses = false;
+      place = 0;
+    })
+    (deskStays 0 q s last entry)
+
+-- an event at its record p
+unfoldable pub deedBy : Purse → Seen → Message → Entry → Event → Deed
+deedBy p s last entry e =
+    cond (eqb (chosen p s e .answer) 0) (doing (chosen p s e .purse) s last entry (chosen p s e .change))
+    (deskStays (chosen p s e .answer) p s last entry)
+
+-- an event at its record p and the desk
+unfoldable pub deedAt : Purse → Desk → Event → Deed
+deedAt p d e =
+    deedBy p
+    (seenWith (d .purses) (d .ether .count) (d .archive .count) (getD (d .ether .places) (within (deliveredAt e)) zeroMessage) e)
+    (getD (d .ether .places) (within (d .ether .count)) zeroMessage)
+    (getD (d .archive .places) (within (d .archive .count)) zeroEntry)
+    e
+
+-- the desk with a deed's message and entry behind those that stood
+abbrev pub writtenOn : Desk → Deed → Desk
+writtenOn d c =
+    record {
+      purses = d .purses;
+      ether = record { places = set (d .ether .places) (within (d .ether .count)) (c .message); count = c .messages };
+      archive = record { places = set (d .archive .places) (within (d .archive .count)) (c .entry); count = c .entries };
+    }
+
+-- and, of a loss, without that message
+unfoldable pub deskAfter : Desk → Deed → Desk
+deskAfter d c = cond (c .loses) (withEther (writtenOn d c) (takenOut (writtenOn d c .ether) (c .place) .ether)) (writtenOn d c)

@@ -1,0 +1,182 @@
+// What an event writes in a lent table and desk, place by place, so that nothing else is moved: worked out by value from the record that it
+// names and the few places that it reads.
+use bench::Change;
+use bench::Seen;
+use bench::choose;
+use bench::decode;
+use bench::delivered_at;
+use bench::place_of;
+use desk::Entry;
+use desk::Ether;
+use purse::Message;
+use purse::Purse;
+use rules::Event;
+ghost use mathlib.Core.Path.{_≡_};
+ghost use Rattle.rules.specs.Events.{decoded};
+ghost use Rattle.desk.specs.Desk.{takenOut};
+ghost use Rattle.bench.specs.Acts.{placeOf, deliveredAt};
+ghost use Rattle.deeds.specs.Deeds.{within, seenWith, deskStays, doing, deedBy};
+
+// What an event writes: the answer, its record's next state, what then stands behind the messages and behind the entries with their
+// counts, and the place of a message that is lost.
+pub struct Deed {
+    pub answer: u8,
+    pub purse: Purse,
+    pub message: Message,
+    pub messages: u16,
+    pub entry: Entry,
+    pub entries: u16,
+    pub loses: bool,
+    pub place: usize,
+}
+
+// The place of the record that an event names, below 32.
+pub fn place(event: &[u8]) -> usize
+    ensures { λ r. ⌜ r ≡ placeOf (decoded (now (event .entry))) ⌝ }
+{
+    place_of(decode(event))
+}
+
+// The place n, or the last place where n is past all.
+fn within(n: usize) -> usize
+    ensures { λ r. ⌜ r ≡ within n ⌝ }
+{
+    if n < 256 { n } else { 255 }
+}
+
+// The place of the message that an event delivers; the last place where it delivers none.
+pub fn delivered(event: &[u8]) -> usize
+    ensures { λ r. ⌜ r ≡ within (deliveredAt (decoded (now (event .entry)))) ⌝ }
+{
+    within(delivered_at(decode(event)))
+}
+
+// The place behind the used ones; the last place where all are used.
+pub fn behind(count: u16) -> usize
+    ensures { λ r. ⌜ r ≡ within count ⌝ }
+{
+    within(count as usize)
+}
+
+// What an event's tests read of the desk: m is the message at the place that `delivered` gives.
+fn seen(purses: u8, messages: u16, entries: u16, m: Message, event: Event) -> Seen
+    ensures { λ r. ⌜ r ≡ seenWith purses messages entries m event ⌝ }
+{
+    if delivered_at(event) < 256 {
+        Seen {
+            purses: purses,
+            messages: messages,
+            entries: entries,
+            message: m,
+        }
+    } else {
+        Seen {
+            purses: purses,
+            messages: messages,
+            entries: entries,
+            message: Message::zero(),
+        }
+    }
+}
+
+// The record q is written, and the desk stays.
+fn desk_stays(answer: u8, q: Purse, s: Seen, last: Message, entry: Entry) -> Deed
+    ensures { λ r. ⌜ r ≡ deskStays answer q s last entry ⌝ }
+{
+    Deed {
+        answer: answer,
+        purse: q,
+        message: last,
+        messages: s.messages,
+        entry: entry,
+        entries: s.entries,
+        loses: false,
+        place: 0,
+    }
+}
+
+// What a change writes.
+fn doing(q: Purse, s: Seen, last: Message, entry: Entry, change: Change) -> Deed
+    ensures { λ r. ⌜ r ≡ doing q s last entry change ⌝ }
+{
+    match change {
+        Change::Nothing => desk_stays(0, q, s, last, entry),
+        Change::Send(m) => {
+            if s.messages < 256 {
+                Deed {
+                    answer: 0,
+                    purse: q,
+                    message: m,
+                    messages: s.messages + 1,
+                    entry: entry,
+                    entries: s.entries,
+                    loses: false,
+                    place: 0,
+                }
+            } else {
+                desk_stays(1, q, s, last, entry)
+            }
+        }
+        Change::Lose(place) => Deed {
+            answer: 0,
+            purse: q,
+            message: last,
+            messages: s.messages,
+            entry: entry,
+            entries: s.entries,
+            loses: true,
+            place: place as usize,
+        },
+        Change::Store(e) => {
+            if s.entries < 256 {
+                Deed {
+                    answer: 0,
+                    purse: q,
+                    message: last,
+                    messages: s.messages,
+                    entry: e,
+                    entries: s.entries + 1,
+                    loses: false,
+                    place: 0,
+                }
+            } else {
+                desk_stays(0, q, s, last, entry)
+            }
+        }
+    }
+}
+
+// What an event writes at its record p and behind the messages and the entries that stand, where `last` and `entry` stand now.
+pub fn done_by(
+    p: Purse,
+    purses: u8,
+    messages: u16,
+    entries: u16,
+    m: Message,
+    last: Message,
+    entry: Entry,
+    event: &[u8],
+) -> Deed
+    ensures { λ r. ⌜ r ≡ deedBy p (seenWith purses messages entries m (decoded (now (event .entry)))) last entry (decoded (now (event .entry))) ⌝ }
+{
+    let e = decode(event);
+    let s = seen(purses, messages, entries, m, e);
+    let c = choose(p, s, e);
+    let n = c.answer;
+    if n == 0 {
+        let q = c.purse;
+        let change = c.change;
+        doing(q, s, last, entry, change)
+    } else {
+        desk_stays(n, p, s, last, entry)
+    }
+}
+
+// The messages without the one at a place.
+pub fn lost(ether: Ether, place: usize) -> Ether
+    ensures { λ r. ⌜ r ≡ takenOut ether place .ether ⌝ }
+{
+    let changed = ether.take_out(place);
+    changed.ether
+}
+
