@@ -1,4 +1,3 @@
-mod Structs
 mod Calls
 mod Runs
 pub mod Unique

@@ -126,6 +126,11 @@ module _ {M : Type 1} {𝓤 : URA M} {H : Heap 𝓤} {A : Atoms 𝓤} {K : Type 
     shuts-ref t z R ℓ mk h h′ vs b o is = step (λ s. move t (1 ∷ []) $ fsplit3 t $ move t (3 ∷ []) $ owned t R (Is R) mk h′ vs is $ move t (1 ∷ 0 ∷ []) $
         closes t z R h′ vs b o $ feqI t (List Val) (vptr b o ∷ []) (vptr b o ∷ []) refl $ fjoin3 t $ s)
 
+    -- what a `&mut T` owns says its last value
+    pub says-last : K → (R : RattleType) (ℓ : Lifetime) {κ : Lft} {γ : GName} (h : R .Denot) (b o : ℕ)
+        → Step K W (‵ (fres γ (R .coded .code h)) ∷ Γ) G (‵ (MutRef ℓ κ R .own (record { ptr = (b, o); name = γ; now = h }) (vptr b o ∷ [])) ∷ Γ) G
+    says-last t R ℓ {κ} {γ} h b o = step (λ s. fsplit3 t $ move t (1 ∷ []) $ use1 W (‵ (fres γ (R .coded .code h))) (W .names .obs-res γ (R .coded .code h)) $ move t (1 ∷ 2 ∷ []) $ drop t $ drop t $ s)
+
     -- what a `&T` owns and the token, for a share of the cell and what closes the borrow. T is Copy
     pub looks-ref : K → Soaks G → (R : RattleType) (ℓ : Lifetime) (vals : R .Denot → List Val) → Tells R (Is R) vals → Copy 𝓤 H A R → {κ : Lft} {q : Share} {γ : GName} (h : R .Denot) (b o : ℕ)
         → ((q′ : Share) → Is R h (vals h) → Seq K W (‵ (cellAt q′ (R .mir) (vals h) b o) ∷ ‵ (LookedRef R κ q q′ γ b o h) ∷ Γ) G)
