@@ -42,3 +42,9 @@ def status_name(status):
 
 def message_name(kind):
     return MESSAGES.get(kind, f"message of kind {kind}")
+
+
+def counted(number, what):
+    """So many of a thing."""
+    plural = what[:-1] + "ies" if what.endswith("y") else what + "s"
+    return f"{number} {what if number == 1 else plural}"

@@ -3,6 +3,8 @@
 import struct
 from typing import NamedTuple
 
+from .answers import VALUE
+
 PURSES, LOG_PLACES, MESSAGES, ENTRIES = 32, 8, 256, 256
 
 DETAILS = struct.Struct(">BIBII")
@@ -30,7 +32,11 @@ class Message(NamedTuple):
     @property
     def sender(self):
         """The payee sends requests and acknowledges, the payer the value."""
-        return self.details.payer if self.kind == 2 else self.details.payee
+        return self.details.payer if self.kind == VALUE else self.details.payee
+
+    @property
+    def receiver(self):
+        return self.details.payee if self.kind == VALUE else self.details.payer
 
 
 class Entry(NamedTuple):
