@@ -22,7 +22,7 @@ LEADING = 15
 BOLD = 1.12  # how much wider bold letters are
 FAR = 5  # rows, over which an arrow would cross too much
 SECTION = 15  # rows, after which the heads stand again
-WORDS_WIDTH, ANSWER_WIDTH = 292, 190
+WORDS_WIDTH, ANSWER_WIDTH = 292, 196
 
 # Widths of a common wide face (DejaVu Sans), in parts of the size; a narrower face leaves air.
 WIDTHS = [("ijlI|.,:;'!", 0.34), (" ft", 0.4), ("r()[]-/", 0.42), ("mMwW%", 0.99), ("−+=<>…", 0.86)]
@@ -124,7 +124,7 @@ class Chart:
         self.left = PAD + (WORDS_WIDTH if with_words else 34) + GAP // 2
         self.lanes = {name: self.left + LANE * place + LANE // 2 for place, name in enumerate(choice.purses)}
         self.right = self.left + LANE * len(choice.purses) + GAP // 2
-        self.width = self.right + (ANSWER_WIDTH if with_words else 0) + PAD
+        self.width = self.right + (ANSWER_WIDTH + PAD if with_words else 0) + PAD
         self.sent = {}  # message: the step that sent it, the row's middle and its section, where it has a row
         self.given = set()  # messages that were delivered or lost
         self.taken = set()  # messages that a delivery was done with
@@ -194,7 +194,7 @@ class Chart:
     def row(self, step):
         lines, kind = mark(step, step.message in self.taken)
         said = wrapped(step.event.text, SMALL, WORDS_WIDTH - 34) if self.with_words else []
-        answer = wrapped(f"{step.answer}: {meaning(step.answer)}", SMALL, ANSWER_WIDTH) if self.with_words else []
+        answer = wrapped(f"{step.answer}: {meaning(step.answer)}", SMALL, ANSWER_WIDTH - 6) if self.with_words else []
         height = max(LEADING * max(len(lines), len(said), len(answer)) + 20, 46)
         middle = self.y + height / 2
         self.line(0, self.y, self.width, self.y, "rule")
@@ -303,9 +303,14 @@ class Chart:
         height = int(self.y + PAD)
         size = f'width="{self.width}" height="{height}" viewBox="0 0 {self.width} {height}"'
         out = [f'<svg xmlns="http://www.w3.org/2000/svg" class="chart" role="img" {size}>']
-        out.append(f"<title>{html.escape(self.run.text.name)}</title><style>{STYLE}</style>")
+        out.append(f"<title>{html.escape(file_name(self.run.text))}</title><style>{STYLE}</style>")
         out.append(f'<rect width="{self.width}" height="{height}" fill="#fff"/>')
         return "\n".join(out + self.back + self.front + ["</svg>"]) + "\n"
+
+
+def file_name(text):
+    """Without its folders, so that a picture is the same wherever it is drawn."""
+    return text.name.rsplit("/", 1)[-1]
 
 
 def mark(step, is_again):
@@ -349,7 +354,7 @@ def drawn(run, choice=None, with_words=True):
     if run.opening not in DONE:
         choice = Choice((), 0, 0)
     chart = Chart(run, choice, with_words)
-    name = run.text.name.rsplit("/", 1)[-1]
+    name = file_name(run.text)
     if run.opening not in DONE:
         chart.width = 560
         chart.title(f"{name}: opening refused, {run.opening}: {meaning(run.opening)}")

@@ -167,7 +167,10 @@ def read(path):
     name = "standard input" if path == "-" else shown(path)
     try:
         if path == "-":
-            data = whole(0)
+            source = os.environ.get("PRS_INPUT", "0")  # the number under which ./prs hands it on
+            if source == "closed":
+                raise Failure("standard input is closed")
+            data = whole(int(source))
         else:
             with open(path, "rb") as source:
                 data = whole(source.fileno())

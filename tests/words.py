@@ -46,7 +46,7 @@ def line_bytes(line):
 def text_bytes(text):
     """The bytes of a whole text."""
     made = []
-    for place, line in enumerate(text.splitlines(), 1):
+    for place, line in enumerate(text.split("\n"), 1):
         try:
             made.append(line_bytes(line.split("#")[0]))
         except (ValueError, struct.error) as wrong:
