@@ -9,6 +9,7 @@ Last line 'N passed, M failed'; the exit status is 1 on any failure.
 """
 
 import argparse
+import html
 import html.parser
 import json
 import os
@@ -249,9 +250,9 @@ def pictures():
     texts = [text for text, _ in texts_of(prs("chart", EXAMPLES / "pulled-out.txt").stdout)]
     for want in ["stopped, logs 300", "1 in its log", "entry of 300 collected", "to archive place 1", "owed: 300 to purse 0", "paid and on no card: 300", "value refused"]:
         hold(f"entries and what is owed: {want}", (want in texts, texts))
-    again = run_of("open 9 9\nstart-from 0 to 1 number 1 amount 3\nstart-to 1 from 0 number 1 amount 3\ndeliver 0 to 1\ndeliver 0 to 0\ndeliver 0 to 0")
+    again = run_of("open 9 9\nstart-from 0 to 1 number 1 amount 3\nstart-to 1 from 0 number 1 amount 3\n" + "deliver 0 to 1\n" * 2 + "deliver 0 to 0\n" * 2)
     boxes = [text for text, _ in texts_of(chart.drawn(again))]
-    hold("again is said after a delivery that was done, not after a refused one", (boxes.count("request refused") == 1 and boxes.count("request again refused") == 1 and "takes the request" in boxes, boxes))
+    hold("again is said after a delivery that was done, not after a refused one", (boxes.count("request refused") == 2 and boxes.count("request again refused") == 1 and "takes the request" in boxes, boxes))
     said = [text for text, _ in texts_of(chart.drawn(run_of("open 9 9\nbytes 02 01 00 00 00000001 00000003\nbytes 03 01 00 00 00000000 00000000\nbytes ff")))]
     hold("bytes are drawn as what they say", ("is to take 3 from 0" in said and "request refused" in said and "has 9" in said, said))
     long = [text for text, _ in texts_of(prs("chart", EXAMPLES / "full-ether.txt").stdout)]
@@ -336,7 +337,7 @@ for (const picture of document.querySelectorAll("svg.chart")) {
   });
 }
 const parts = [...document.querySelectorAll(".parts")].map(p => [...p.children].map(c => Math.round(c.getBoundingClientRect().left)));
-document.title = "MEASURED" + JSON.stringify({wide: document.documentElement.scrollWidth, window: innerWidth, wrong: wrong.slice(0, 3), pictures: document.querySelectorAll("svg.chart").length, parts: parts[0]}) + "END";
+parent.document.title = "MEASURED" + JSON.stringify({wide: document.documentElement.scrollWidth, window: innerWidth, wrong: wrong.slice(0, 3), pictures: document.querySelectorAll("svg.chart").length, parts: parts[0]}) + "END";
 </script>
 """
 
@@ -346,9 +347,11 @@ def browsed(room, data):
     if not browser:
         print("pictures: no Chromium: the pages are not opened in a browser")
         return
-    (room / "page.html").write_bytes(data.replace(b"</body>", MEASURE.encode() + b"</body>"))
+    measured = html.escape(data.decode().replace("</body>", MEASURE + "</body>"))
     for width, what in [(390, "a phone"), (1280, "a desk")]:
-        command = [browser, "--headless", "--no-sandbox", "--disable-gpu", f"--user-data-dir={room / 'browser'}", f"--window-size={width},900", "--dump-dom", f"file://{room / 'page.html'}"]
+        # in a frame, since a browser's own window may not become as narrow as a phone
+        (room / "page.html").write_text(f'<!DOCTYPE html><meta charset="utf-8"><iframe style="border:0;width:{width}px;height:900px" srcdoc="{measured}"></iframe>')
+        command = [browser, "--headless", "--no-sandbox", "--disable-gpu", f"--user-data-dir={room / 'browser'}", "--window-size=1400,1000", "--dump-dom", f"file://{room / 'page.html'}"]
         try:
             ran = subprocess.run(command, capture_output=True, timeout=PATIENCE)
         except subprocess.TimeoutExpired:
@@ -362,6 +365,7 @@ def browsed(room, data):
         beside = len(set(got["parts"])) == 3
         hold(
             f"the page at {what}'s width",
+            (got["window"] == width, f"the window is {got['window']} wide"),
             (got["wide"] <= got["window"], f"it is {got['wide']} wide in a window of {got['window']}"),
             (got["pictures"] == 8, got["pictures"]),
             (not got["wrong"], got["wrong"]),

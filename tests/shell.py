@@ -155,7 +155,7 @@ def outputs():
             check(f"{name}: {what} on a closed pipe, the signal ignored", ran, b"")
             ran = run([command], input=data, stdout=theirs)
             if command == SCRIPT:
-                check(f"{name}: {what} on a closed pipe", ran, b"")
+                check(f"{name}: {what} on a closed pipe", ran, b"its reader has gone")
             else:
                 hold(f"{name}: {what} on a closed pipe", (ran.returncode == -signal.SIGPIPE, f"status {ran.returncode}"))
             os.close(theirs)
@@ -221,7 +221,8 @@ def links(room):
     shutil.copy(SCRIPT, room / "alone")
     loud("a copy of ./prs alone", run([room / "alone"], input=WORKED), b"crates.txt", 2)
     # python takes nothing from the folder it is started in
-    (room / "struct.py").write_text("raise SystemExit('taken from here')\n")
+    for name in ["argparse", "html", "select", "struct"]:
+        (room / f"{name}.py").write_text("raise SystemExit('taken from here')\n")
     (room / "replay").mkdir()
     (room / "replay" / "__init__.py").write_text("raise SystemExit('taken from here')\n")
     ran = run([SCRIPT, "list", ROOT / "examples/undisturbed.txt"], cwd=room)
