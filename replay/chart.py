@@ -214,6 +214,8 @@ class Chart:
             lane = self.lanes.get(step.message.sender, self.lanes.get(step.message.receiver))
         if lane is not None:
             self.box(lane, middle, lines, kind)
+        elif not self.with_words:  # it is for no purse shown, and nothing else in its row says so
+            self.text(self.left, middle + 4, ", ".join(lines), SMALL, "bad halo" if kind == "refused" else "halo")
         if step.message:
             self.meet(step, lane, middle)
         if step.sent:

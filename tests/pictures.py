@@ -35,6 +35,7 @@ from replay.failure import Failure  # noqa: E402
 
 SVG = "{http://www.w3.org/2000/svg}"
 PATIENCE = 120
+PARTS = {"full-ether": ["--purses", "0,2", "--events", "427-438"]}  # of the pictures in docs/ that show a part
 BROWSERS = ["chromium", "chromium-browser", "google-chrome"]
 
 passed, failed = 0, 0
@@ -242,8 +243,8 @@ def pictures():
         hold(f"chart of {path.name}", (ran.returncode == 0 and not ran.stderr, ran.stderr))
         overlaps(path.name, ran.stdout.decode())
         kept = ROOT / "docs" / "pictures" / f"{path.stem}.svg"
-        if kept.exists():
-            hold(f"docs/pictures/{kept.name} is of today", (kept.read_bytes() == ran.stdout, "draw it again: ./prs chart"))
+        part = prs("chart", path, *PARTS.get(path.stem, []))
+        hold(f"docs/pictures/{kept.name} is of today", (kept.read_bytes() == part.stdout, "draw it again: ./prs chart"))
     texts = [text for text, _ in texts_of(prs("chart", EXAMPLES / "undisturbed.txt").stdout)]
     for want in ["−300, has 700", "+300, has 500", "takes the acknowledge", "nothing is owed"]:
         hold(f"money to be seen: {want}", (want in texts, texts))
@@ -263,6 +264,8 @@ def pictures():
     hold("a choice of purses and events", ("purse 0" in some and "purse 2" in some and "purse 1" not in some, some), ("429" in some and "424" not in some and "425" not in some, some), ("before event 425" in some and "after event 438" in some and "has 916" in some and "value lost at once" in some, some))
     one = [text for text, _ in texts_of(prs("chart", EXAMPLES / "full-ether.txt", "--events", "3").stdout)]
     hold("one event", ("after event 3" in one and "−1, has 999" in one and "from 2" in one, one))
+    nobody = [text for text, _ in texts_of(chart.drawn(run_of("open 9 9\nabort 200\nbytes ff"), with_words=False))]
+    hold("events for no purse have their words on a page", ("abort refused, answer 4" in nobody and "event refused, answer 3" in nobody, nobody))
     refused = chart.drawn(run_of("open 5000001 1"))
     hold("a refused opening is drawn", ("opening refused, 21" in refused, refused))
     wide = run_of("open" + " 5000000" * 32 + "\n" + "".join(f"start-from {n} to {31 - n} number 4294967295 amount 5000000\nstart-from {n} to 255 number 4294967295 amount 4294967295\n" for n in range(32)) + "bytes " + "f" * 24)
