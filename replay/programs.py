@@ -37,7 +37,8 @@ def listing(data):
 
 
 class Probe:
-    """The probe, asked for openings and events; each reply is an answer and the state after it."""
+    """The probe, asked for an opening and then for events, each on the state that the last reply left; a reply is an answer and the state
+    after it. The bytes of a state are kept only until the next."""
 
     def __enter__(self):
         try:
@@ -68,10 +69,11 @@ class Probe:
             pass
         if len(reply) < 1 + STATE_SIZE:
             raise Failure("the probe ended before its reply")
-        return reply[0], state(reply[1:])
+        self.now = reply[1:]
+        return reply[0], state(self.now)
 
     def opening(self, balances):
         return self.ask(b"O" + bytes(STATE_SIZE) + struct.pack(f">B{len(balances)}I", len(balances), *balances))
 
-    def event(self, before, data):
-        return self.ask(b"E" + before.raw + bytes([len(data)]) + data)
+    def event(self, data):
+        return self.ask(b"E" + self.now + bytes([len(data)]) + data)

@@ -4,11 +4,11 @@ that is told or drawn is read off these states; nothing here knows what an event
 from functools import cached_property
 
 from .answers import ACKNOWLEDGE, DONE, REQUEST, SENT_LOST, VALUE
+from .events import BY_WORD, packed
 from .failure import Failure
 from .programs import Probe, listing
 from .state import Message
 from .words import Event
-from .events import BY_WORD, packed
 
 # What a delivered message makes the purse send, for a message that was lost as it was sent; a start-to sends a request.
 SENDS = {REQUEST: VALUE, VALUE: ACKNOWLEDGE}
@@ -87,7 +87,7 @@ class Run:
     def __init__(self, text):
         self.text = text
         self.listing = listing(text.data)
-        self.steps = []
+        self.steps, self.stops = [], []
         with Probe() as probe:
             self.opening, self.opened = probe.opening(text.balances)
             if self.opening not in DONE:
@@ -95,7 +95,7 @@ class Run:
                 return
             now = self.opened
             for place, event in enumerate(text.events, 1):
-                answer, after = probe.event(now, event.data)
+                answer, after = probe.event(event.data)
                 self.steps.append(Step(place, event, answer, now, after))
                 now = after
             self.stops = list(self.stopping(probe, now))
@@ -107,7 +107,7 @@ class Run:
         for name, purse in enumerate(now.purses):
             if purse.status:
                 fields = {"purse": name}
-                answer, after = probe.event(now, packed(abort, fields))
+                answer, after = probe.event(packed(abort, fields))
                 yield Step(len(self.steps) + 1, Event(0, f"abort {name}", packed(abort, fields), abort, fields), answer, now, after)
                 now = after
 

@@ -56,7 +56,6 @@ class State(NamedTuple):
     purses: tuple
     messages: tuple
     archive: tuple
-    raw: bytes  # as the probe gave it, to be given back with the next event
 
 
 def record(raw, at):
@@ -86,5 +85,4 @@ def state(raw):
         tuple(record(raw, 1 + RECORD_SIZE * name) for name in range(count)),
         marked(raw, MESSAGES_AT, MESSAGES, Message),
         marked(raw, ARCHIVE_AT, ENTRIES, Entry),
-        raw,
     )
