@@ -12,6 +12,7 @@ the listing from the proved bench program, and the two are held to each other.
     run.py          a text run: each event with the states before and after it
     transfers.py    broken transfers, what is owed, the check of demand 3
     telling.py      a run told in words
-    chart.py        a run as a picture (SVG)
+    drawing.py      marks on a picture (SVG)
+    chart.py        a run as a picture
     page.py         runs as one HTML page
 """

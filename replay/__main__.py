@@ -1,5 +1,5 @@
-"""The commands of ./prs over words: list, tell, chart, page. Whatever ends one early is one line on standard error and a status
-above 0."""
+"""The commands of ./prs over words: list, tell, chart, page. Whatever ends one early is one line
+on standard error and a status above 0."""
 
 import argparse
 import os

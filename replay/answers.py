@@ -1,4 +1,5 @@
-"""What document 01's numbers mean: answers, statuses of a purse, kinds of messages. A later answer is one line more."""
+"""What document 01's numbers mean: answers, statuses of a purse, kinds of messages. A later
+answer is one line more."""
 
 ANSWERS = {
     0: "done",

@@ -1,14 +1,16 @@
-"""The kinds of events in one table: the words that say one, the fields they fill, how a done one is told, and its mark in the chart.
+"""The kinds of events in one table: the words that say one, the fields they fill, how a done one is
+told, and its mark in the chart.
 
-An event is 12 bytes, numbers big-endian: kind, purse, counterparty, spare (0), number (4), amount (4). A later kind is one entry more
-in KINDS, with its two functions; a later word for a field is one entry more in SLOTS. A function of the table is given a step of a run
-(run.py) that was done, and looks only at the states before and after it.
+An event is 12 bytes, numbers big-endian: kind, purse, counterparty, spare (0), number (4),
+amount (4). A later kind is one entry more in KINDS, with its two functions; a later word for a
+field is one entry more in SLOTS. A function of the table is given a step of a run (run.py) that
+was done, and looks only at the states before and after it.
 """
 
 import struct
 from typing import Callable, NamedTuple
 
-from .answers import ACKNOWLEDGE, EPR, IDLE, REQUEST, SENT_LOST, VALUE, message_name
+from .answers import ACKNOWLEDGE, EPR, IDLE, REQUEST, SENT_LOST, VALUE, counted, message_name
 
 LAYOUT = struct.Struct(">BBBBII")
 EVENT_SIZE = LAYOUT.size
@@ -16,7 +18,8 @@ BYTE, WORD = 2**8 - 1, 2**32 - 1
 
 
 class Slot(NamedTuple):
-    """A number in the words of an event: the field it fills and the largest value that the field holds."""
+    """A number in the words of an event: the field it fills and the largest value that the field
+    holds."""
 
     field: str
     most: int
@@ -58,7 +61,11 @@ def sending(step):
 
 def mark_sending(step):
     """A line of the box for a message that was lost as it was sent."""
-    return [f"{message_name(step.sent.kind)} lost at once"] if step.sent and step.answer == SENT_LOST else []
+    return (
+        [f"{message_name(step.sent.kind)} lost at once"]
+        if step.sent and step.answer == SENT_LOST
+        else []
+    )
 
 
 def money(step):
@@ -69,7 +76,9 @@ def money(step):
 
 def told_start_from(step):
     d = step.details
-    return f"purse {d.payer} is to pay {d.amount} to purse {d.payee} and waits for the request (epr)"
+    return (
+        f"purse {d.payer} is to pay {d.amount} to purse {d.payee} and waits for the request (epr)"
+    )
 
 
 def mark_start_from(step):
@@ -78,11 +87,16 @@ def mark_start_from(step):
 
 def told_start_to(step):
     d = step.details
-    return f"purse {d.payee} is to take {d.amount} from purse {d.payer}, waits for the value (epv){sending(step)}"
+    told = f"purse {d.payee} is to take {d.amount} from purse {d.payer}, waits for the value (epv)"
+    return told + sending(step)
 
 
 def mark_start_to(step):
-    return [f"is to take {step.details.amount} from {step.details.payer}", "sends the request", *mark_sending(step)]
+    return [
+        f"is to take {step.details.amount} from {step.details.payer}",
+        "sends the request",
+        *mark_sending(step),
+    ]
 
 
 DELIVERIES = {
@@ -94,7 +108,9 @@ DELIVERIES = {
 
 def told_delivery(step):
     """A delivery that was done; by what its message was."""
-    said = DELIVERIES.get(step.message.kind, "takes the " + message_name(step.message.kind) + "{sending}")
+    said = DELIVERIES.get(
+        step.message.kind, "takes the " + message_name(step.message.kind) + "{sending}"
+    )
     return f"purse {step.purse} " + said.format(amount=step.details.amount, sending=sending(step))
 
 
@@ -108,7 +124,8 @@ def told_abort(step):
     if before.status == IDLE:
         return f"purse {step.purse} is stopped; it was idle and stays as it is"
     if len(after.log) > len(before.log):
-        return f"purse {step.purse} is stopped and logs the transfer (entry {len(after.log)} of 8 in its log)"
+        entry = f"entry {len(after.log)} of 8 in its log"
+        return f"purse {step.purse} is stopped and logs the transfer ({entry})"
     why = ": it had paid nothing" if before.status == EPR else ""
     return f"purse {step.purse} is stopped and logs nothing{why}"
 
@@ -121,8 +138,8 @@ def mark_abort(step):
 
 
 def told_loss(step):
-    left = len(step.after.messages)
-    return f"the {message_name(step.message.kind)} is lost; {left} message{'' if left == 1 else 's'} left"
+    left = counted(len(step.after.messages), "message")
+    return f"the {message_name(step.message.kind)} is lost; {left} left"
 
 
 def mark_loss(step):
@@ -130,16 +147,30 @@ def mark_loss(step):
 
 
 def told_collect(step):
-    return f"the oldest entry of purse {step.purse} goes to the archive (place {len(step.after.archive) - 1})"
+    place = len(step.after.archive) - 1
+    return f"the oldest entry of purse {step.purse} goes to the archive (place {place})"
 
 
 def mark_collect(step):
-    return [f"entry of {step.details.amount} collected", f"to archive place {len(step.after.archive) - 1}"]
+    return [
+        f"entry of {step.details.amount} collected",
+        f"to archive place {len(step.after.archive) - 1}",
+    ]
 
 
 KINDS = [
-    Kind(1, "start-from PURSE to COUNTERPARTY number NUMBER amount AMOUNT", told_start_from, mark_start_from),
-    Kind(2, "start-to PURSE from COUNTERPARTY number NUMBER amount AMOUNT", told_start_to, mark_start_to),
+    Kind(
+        1,
+        "start-from PURSE to COUNTERPARTY number NUMBER amount AMOUNT",
+        told_start_from,
+        mark_start_from,
+    ),
+    Kind(
+        2,
+        "start-to PURSE from COUNTERPARTY number NUMBER amount AMOUNT",
+        told_start_to,
+        mark_start_to,
+    ),
     Kind(3, "deliver PLACE to PURSE", told_delivery, mark_delivery),
     Kind(4, "abort PURSE", told_abort, mark_abort),
     Kind(5, "lose PLACE", told_loss, mark_loss),
@@ -152,17 +183,27 @@ BY_WORD = {kind.word: kind for kind in KINDS}
 def packed(kind, fields):
     """An event's bytes; a field that its kind does not use is 0."""
     return LAYOUT.pack(
-        kind.number, fields.get("purse", 0), fields.get("counterparty", 0), 0, fields.get("number", 0), fields.get("amount", 0)
+        kind.number,
+        fields.get("purse", 0),
+        fields.get("counterparty", 0),
+        0,
+        fields.get("number", 0),
+        fields.get("amount", 0),
     )
 
 
 def unpacked(data):
-    """Kind and fields of bytes that a line of words could have said; no kind and no field for any others."""
+    """Kind and fields of bytes that a line of words could have said; no kind and no field for
+    any others."""
     if len(data) != EVENT_SIZE:
         return None, {}
     number, purse, counterparty, spare, place, amount = LAYOUT.unpack(data)
     kind = BY_NUMBER.get(number)
     fields = {"purse": purse, "counterparty": counterparty, "number": place, "amount": amount}
-    if kind is None or spare or any(value for field, value in fields.items() if field not in kind.fields):
+    if (
+        kind is None
+        or spare
+        or any(value for field, value in fields.items() if field not in kind.fields)
+    ):
         return None, {}
     return kind, {field: fields[field] for field in kind.fields}

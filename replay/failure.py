@@ -12,7 +12,8 @@ class Failure(Exception):
 
 
 def shown(text):
-    """A name or a word of the user's as one line can show it: nothing that a terminal obeys, nothing long."""
+    """A name or a word of the user's as one line can show it: nothing that a terminal obeys,
+    nothing long."""
     text = text.encode("utf-8", "replace").decode("utf-8")
     plain = "".join(c if c.isprintable() else "\\x%02x" % ord(c) for c in text)
     return plain if len(plain) <= 60 else plain[:57] + "..."

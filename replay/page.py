@@ -1,5 +1,6 @@
-"""Runs as one HTML page that needs nothing beside it: for each text its chart, its telling and its listing side by side, on a narrow screen
-one below the other. There is no script; a tick beside an event is for the one who replays it on real cards."""
+"""Runs as one HTML page that needs nothing beside it: for each text its chart, its telling and
+its listing side by side, on a narrow screen one below the other. There is no script; a tick
+beside an event is for the one who replays it on real cards."""
 
 import html
 import re
@@ -49,7 +50,11 @@ def told(run):
     """The telling as a list of events and the parts below it."""
     if run.opening not in DONE:
         return f'<p class="no">opening refused, {run.opening}: {escaped(meaning(run.opening))}; no event is run</p>'
-    out = ["<p>opened: " + ", ".join(f"purse {n} with {balance}" for n, balance in enumerate(run.text.balances)) + "</p>"]
+    out = [
+        "<p>opened: "
+        + ", ".join(f"purse {n} with {balance}" for n, balance in enumerate(run.text.balances))
+        + "</p>"
+    ]
     out.append('<ol class="told">')
     for step in run.steps:
         said = "said" if step.done else "said no"
@@ -86,7 +91,9 @@ def case(run, place):
 
 
 def page(runs):
-    links = "".join(f'<a href="#case{place}">{escaped(run.text.name)}</a>' for place, run in enumerate(runs, 1))
+    links = "".join(
+        f'<a href="#case{place}">{escaped(run.text.name)}</a>' for place, run in enumerate(runs, 1)
+    )
     return (
         '<!DOCTYPE html>\n<html lang="en"><head><meta charset="utf-8"><meta name="viewport" content="width=device-width,initial-scale=1">'
         f"<title>Purse transfers: {escaped(', '.join(run.text.name for run in runs))}</title><style>{STYLE}</style></head><body>"

@@ -1,4 +1,5 @@
-"""The proved programs, run: the bench program for a listing, the probe for states. A program that fails is told, never guessed around."""
+"""The proved programs, run: the bench program for a listing, the probe for states. A program
+that fails is told, never guessed around."""
 
 import os
 import pathlib
@@ -12,11 +13,18 @@ BUILT = pathlib.Path(__file__).resolve().parent.parent / "target" / "bin"
 
 
 def command(name):
-    """The words that start a program; on another processor than the program's, ./prs names the kit's emulator."""
+    """The words that start a program; on another processor than the program's, ./prs names the
+    kit's emulator."""
     program = str(BUILT / name)
     tools = os.environ.get("PRS_TOOLS")
     if tools:
-        return [f"{tools}/bin/qemu-x86_64", f"{tools}/lib/ld-linux-x86-64.so.2", "--library-path", f"{tools}/lib", program]
+        return [
+            f"{tools}/bin/qemu-x86_64",
+            f"{tools}/lib/ld-linux-x86-64.so.2",
+            "--library-path",
+            f"{tools}/lib",
+            program,
+        ]
     return [program]
 
 
@@ -32,17 +40,24 @@ def listing(data):
         raise no_program("prs", error) from None
     if ran.stderr or ran.returncode:
         said = ran.stderr.decode("utf-8", "replace").strip().splitlines()
-        raise Failure(said[0].removeprefix("prs: ") if said else f"the bench program ended with status {ran.returncode}")
+        raise Failure(
+            said[0].removeprefix("prs: ")
+            if said
+            else f"the bench program ended with status {ran.returncode}"
+        )
     return ran.stdout.decode("ascii", "replace")
 
 
 class Probe:
-    """The probe, asked for an opening and then for events, each on the state that the last reply left; a reply is an answer and the state
-    after it. The bytes of a state are kept only until the next."""
+    """The probe, asked for an opening and then for events, each on the state that the last reply
+    left; a reply is an answer and the state after it. The bytes of a state are kept only until
+    the next."""
 
     def __enter__(self):
         try:
-            self.program = subprocess.Popen(command("probe"), stdin=subprocess.PIPE, stdout=subprocess.PIPE, bufsize=0)
+            self.program = subprocess.Popen(
+                command("probe"), stdin=subprocess.PIPE, stdout=subprocess.PIPE, bufsize=0
+            )
         except OSError as error:
             raise no_program("probe", error) from None
         return self
@@ -73,7 +88,9 @@ class Probe:
         return reply[0], state(self.now)
 
     def opening(self, balances):
-        return self.ask(b"O" + bytes(STATE_SIZE) + struct.pack(f">B{len(balances)}I", len(balances), *balances))
+        return self.ask(
+            b"O" + bytes(STATE_SIZE) + struct.pack(f">B{len(balances)}I", len(balances), *balances)
+        )
 
     def event(self, data):
         return self.ask(b"E" + self.now + bytes([len(data)]) + data)

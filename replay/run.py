@@ -1,5 +1,6 @@
-"""A text run through the proved programs: its listing, and each event with its answer and the states before and after it. Everything
-that is told or drawn is read off these states; nothing here knows what an event does."""
+"""A text run through the proved programs: its listing, and each event with its answer and the
+states before and after it. Everything that is told or drawn is read off these states; nothing
+here knows what an event does."""
 
 from functools import cached_property
 
@@ -10,7 +11,8 @@ from .programs import Probe, listing
 from .state import Message
 from .words import Event
 
-# What a delivered message makes the purse send, for a message that was lost as it was sent; a start-to sends a request.
+# What a delivered message makes the purse send, to name a message that was lost as it was sent; a
+# start-to sends a request.
 SENDS = {REQUEST: VALUE, VALUE: ACKNOWLEDGE}
 
 
@@ -76,9 +78,17 @@ class Step:
     def concerns(self):
         """The purses whose balances are told: the event's own first, then its counterparty."""
         names = [self.purse]
-        names += [self.details.payer, self.details.payee] if self.details else [self.event.fields.get("counterparty")]
+        names += (
+            [self.details.payer, self.details.payee]
+            if self.details
+            else [self.event.fields.get("counterparty")]
+        )
         names += self.moved
-        return [name for name in dict.fromkeys(names) if name is not None and name < len(self.after.purses)]
+        return [
+            name
+            for name in dict.fromkeys(names)
+            if name is not None and name < len(self.after.purses)
+        ]
 
 
 class Run:
@@ -102,13 +112,20 @@ class Run:
         self.hold()
 
     def stopping(self, probe, now):
-        """Each busy purse stopped, after the run: demand 3 speaks of a bench whose purses are all stopped."""
+        """Each busy purse stopped, after the run: demand 3 speaks of a bench whose purses are
+        all stopped."""
         abort = BY_WORD["abort"]
         for name, purse in enumerate(now.purses):
             if purse.status:
                 fields = {"purse": name}
                 answer, after = probe.event(packed(abort, fields))
-                yield Step(len(self.steps) + 1, Event(0, f"abort {name}", packed(abort, fields), abort, fields), answer, now, after)
+                yield Step(
+                    len(self.steps) + 1,
+                    Event(0, f"abort {name}", packed(abort, fields), abort, fields),
+                    answer,
+                    now,
+                    after,
+                )
                 now = after
 
     @property
@@ -126,11 +143,19 @@ class Run:
             same = lines == want
         else:
             want = [f"{step.place} {step.answer}" for step in self.steps]
-            want += [f"purse {name} {p.balance} {p.next} {p.status} {len(p.log)}" for name, p in enumerate(self.end.purses)]
+            want += [
+                f"purse {name} {p.balance} {p.next} {p.status} {len(p.log)}"
+                for name, p in enumerate(self.end.purses)
+            ]
             same = lines[:1] == ["PRS 1"] and lines[1:-1] == want
-            same = same and lines[-1].startswith(f"messages {len(self.end.messages)} archive {len(self.end.archive)} claims ")
+            same = same and lines[-1].startswith(
+                f"messages {len(self.end.messages)} archive {len(self.end.archive)} claims "
+            )
         if not same:
-            raise Failure(f"{self.text.name}: the bench program and the probe do not agree; rm -r target builds both anew")
+            raise Failure(
+                f"{self.text.name}: the bench program and the probe do not agree;"
+                " rm -r target builds both anew"
+            )
 
     @cached_property
     def claims(self):

@@ -1,4 +1,5 @@
-"""A bench's state, from the bytes that the probe takes and gives: the one place that knows their layout. All numbers are big-endian."""
+"""A bench's state, from the bytes that the probe takes and gives: the one place that knows their
+layout. All numbers are big-endian."""
 
 import struct
 from typing import NamedTuple
@@ -61,12 +62,16 @@ class State(NamedTuple):
 def record(raw, at):
     balance, following, status, logged = HEAD.unpack_from(raw, at)
     at += HEAD.size
-    places = [Details(*DETAILS.unpack_from(raw, at + DETAILS.size * place)) for place in range(1 + min(logged, LOG_PLACES))]
+    places = [
+        Details(*DETAILS.unpack_from(raw, at + DETAILS.size * place))
+        for place in range(1 + min(logged, LOG_PLACES))
+    ]
     return Purse(balance, following, status, places[0], tuple(places[1:]))
 
 
 def marked(raw, at, most, made, known={}):
-    """The messages or archive entries from a count on. Equal ones are one object: a long run keeps many states."""
+    """The messages or archive entries from a count on. Equal ones are one object: a long run
+    keeps many states."""
     count = min(COUNT.unpack_from(raw, at)[0], most)
     at += COUNT.size
     found = []

@@ -1,5 +1,6 @@
-"""A run told in words, for a help desk: each event with its answer's meaning, the money that moved and the balances; then what broke,
-who is owed, and the check of demand 3. The page shows the same sentences."""
+"""A run told in words, for a help desk: each event with its answer's meaning, the money that
+moved and the balances; then what broke, who is owed, and the check of demand 3. The page shows
+the same sentences."""
 
 from .answers import DONE, WAITS, counted, meaning, message_name, status_name
 from .transfers import CARD, checks, owed, transfers
@@ -17,13 +18,20 @@ def answered(step):
     if step.done and step.event.kind:
         said = "done" if step.answer == 0 else meaning(step.answer)
         return f"{step.answer}, {said}: {step.event.kind.told(step)}"
-    about = f" It was the {message_name(step.message.kind)} of {payment(step.message.details)}." if step.message else ""
+    about = (
+        f" It was the {message_name(step.message.kind)} of {payment(step.message.details)}."
+        if step.message
+        else ""
+    )
     return f"{step.answer}, refused: {meaning(step.answer)}; nothing changed.{about}"
 
 
 def moved(step):
     """The money that moved, and the balances of the purses concerned."""
-    changes = [f"{amount} came to purse {name}" if amount > 0 else f"{-amount} left purse {name}" for name, amount in step.moved.items()]
+    changes = [
+        f"{amount} came to purse {name}" if amount > 0 else f"{-amount} left purse {name}"
+        for name, amount in step.moved.items()
+    ]
     has = ", ".join(f"purse {name} has {step.after.purses[name].balance}" for name in step.concerns)
     said = " and ".join(changes) if changes else "no money moved"
     return f"{said}; {has}" if has else said
@@ -34,10 +42,13 @@ def standing(run):
     for name, purse in enumerate(run.end.purses):
         waits = f", {WAITS[purse.status]}" if purse.status in WAITS else ""
         logged = counted(len(purse.log), "entry")
-        yield f"purse {name}: balance {purse.balance}, next number {purse.next}, {status_name(purse.status)}{waits}, {logged} in its log"
+        status = f"{status_name(purse.status)}{waits}"
+        has = f"balance {purse.balance}, next number {purse.next}"
+        yield f"purse {name}: {has}, {status}, {logged} in its log"
     end = run.end
     stand = "stands" if len(end.messages) == 1 else "stand"
-    yield f"{counted(len(end.messages), 'message')} {stand}, {counted(len(end.archive), 'archive entry')}, claims {run.claims}"
+    archived = counted(len(end.archive), "archive entry")
+    yield f"{counted(len(end.messages), 'message')} {stand}, {archived}, claims {run.claims}"
 
 
 def outcome(transfer, state):
@@ -46,7 +57,11 @@ def outcome(transfer, state):
     if transfer.claimed:
         return f"matched: {d.amount} is owed to purse {d.payer}, and stands in the claims"
     if transfer.matched:
-        left = [n for n, e in ((d.payer, transfer.payer_entry), (d.payee, transfer.payee_entry)) if e.where == CARD]
+        left = [
+            n
+            for n, e in ((d.payer, transfer.payer_entry), (d.payee, transfer.payee_entry))
+            if e.where == CARD
+        ]
         return (
             f"matched: {d.amount} is owed to purse {d.payer}; it stands in the claims once"
             f" {' and '.join(f'the entry of purse {n}' for n in left)} {'is' if len(left) == 1 else 'are'} collected"
@@ -58,12 +73,15 @@ def outcome(transfer, state):
     other = d.payee if transfer.payer_entry else d.payer
     running = state.purses[other].status and state.purses[other].details == d
     if running:
-        return f"not matched: purse {other} still runs it ({status_name(state.purses[other].status)}); nothing is owed yet"
+        status = status_name(state.purses[other].status)
+        return f"not matched: purse {other} still runs it ({status}); nothing is owed yet"
     return "not matched: nothing is owed"
 
 
 def side(role, name, entry):
-    return f"{role}, purse {name}: " + (f"logged, the entry is {entry}" if entry else "logged nothing")
+    return f"{role}, purse {name}: " + (
+        f"logged, the entry is {entry}" if entry else "logged nothing"
+    )
 
 
 def broken(run):
@@ -98,7 +116,9 @@ def demand(run):
     """The check of demand 3 for each purse, with its numbers; whether all come out."""
     lines, right = [], True
     for step in run.stops:
-        lines.append(f"purse {step.purse} is still busy; for this check it is stopped ({step.event.text})")
+        lines.append(
+            f"purse {step.purse} is still busy; for this check it is stopped ({step.event.text})"
+        )
     for check in checks(run):
         right = right and check.right
         lines.append(
@@ -114,11 +134,18 @@ FORMULA = "opening - its payments that arrived - its matched pairs + what arrive
 def told(run):
     """The whole telling as text."""
     text = run.text
-    out = [f"{text.name}: {counted(len(text.balances), 'purse')}, {counted(len(text.events), 'event')}", ""]
+    out = [
+        f"{text.name}: {counted(len(text.balances), 'purse')}, {counted(len(text.events), 'event')}",
+        "",
+    ]
     if run.opening not in DONE:
         out.append(f"opening refused, {run.opening}: {meaning(run.opening)}; no event is run")
         return "\n".join(out) + "\n"
-    out += ["opened: " + ", ".join(f"purse {n} with {balance}" for n, balance in enumerate(text.balances)), ""]
+    out += [
+        "opened: "
+        + ", ".join(f"purse {n} with {balance}" for n, balance in enumerate(text.balances)),
+        "",
+    ]
     wide = len(str(len(run.steps)))
     for step in run.steps:
         out.append(f"{step.place:>{wide}}  {step.event.text}")

@@ -1,9 +1,12 @@
-"""What became of each payment of a run: paid, arrived, logged, matched, owed; and the check of demand 3. Document 01's words:
+"""What became of each payment of a run: paid, arrived, logged, matched, owed; and the check of
+demand 3. Document 01's words:
 
-A payment is paid at the delivery of its request that answers 0 or 1, and arrives at the delivery of its value that answers 0 or 1.
-Matched: the payer and the payee have each logged the same details, in the purse or in the archive. Claims, the figure printed as owed
-to payers, is the sum over pairs with both entries in the archive. Demand 3: once every purse is stopped, each has its opening balance,
-less its payments that arrived, less what its matched log pairs record, plus what arrived in it.
+A payment is paid at the delivery of its request that answers 0 or 1, and arrives at the delivery
+of its value that answers 0 or 1. Matched: the payer and the payee have each logged the same
+details, in the purse or in the archive. Claims, the figure printed as owed to payers, is the sum
+over pairs with both entries in the archive. Demand 3: once every purse is stopped, each has its
+opening balance, less its payments that arrived, less what its matched log pairs record, plus
+what arrived in it.
 """
 
 from typing import NamedTuple
@@ -56,7 +59,11 @@ class Transfer(NamedTuple):
 
 def taken(steps, kind):
     """The payments whose message of that kind was taken."""
-    return {step.details for step in steps if step.done and step.message and step.purse is not None and step.message.kind == kind}
+    return {
+        step.details
+        for step in steps
+        if step.done and step.message and step.purse is not None and step.message.kind == kind
+    }
 
 
 def entries(state):
@@ -69,7 +76,8 @@ def entries(state):
 
 
 def transfers(steps, state):
-    """Every payment that was paid or logged, in the order of its numbers, as it stands after those steps."""
+    """Every payment that was paid or logged, in the order of its numbers, as it stands after
+    those steps."""
     paid, arrived = taken(steps, REQUEST), taken(steps, VALUE)
     logged = {}
     for name, details, place in entries(state):

@@ -1,5 +1,6 @@
-"""The words of a text, read strictly: an opening first and once, then one event a line. Whatever else stands in a text is refused with
-its line and what was expected there; nothing is guessed. docs/REPLAY.md has the grammar."""
+"""The words of a text, read strictly: an opening first and once, then one event a line. Whatever
+else stands in a text is refused with its line and what was expected there; nothing is guessed.
+docs/REPLAY.md has the grammar."""
 
 import os
 import re
@@ -37,7 +38,9 @@ class Text(NamedTuple):
     def data(self):
         """The input of the bench program."""
         count = len(self.balances)
-        return struct.pack(f">B{count}I", count, *self.balances) + b"".join(event.data for event in self.events)
+        return struct.pack(f">B{count}I", count, *self.balances) + b"".join(
+            event.data for event in self.events
+        )
 
 
 class Wrong(Exception):
@@ -93,7 +96,8 @@ def worded_event(words):
 
 
 def said(text):
-    """Each line's number, words and comment. CRLF ends a line as LF does, and tabs part words as spaces do."""
+    """Each line's number, words and comment. CRLF ends a line as LF does, and tabs part words as
+    spaces do."""
     lines = text.split("\n")
     for place, line in enumerate(lines, 1):
         if line.endswith("\r") and place < len(lines):
@@ -106,7 +110,8 @@ def said(text):
 
 
 def parsed(text, name):
-    """A text's opening and events; a Failure that begins with the line's number where it is not in the grammar."""
+    """A text's opening and events; a Failure that begins with the line's number where it is not
+    in the grammar."""
     balances, events, about, last = None, [], [], 1
     for place, words, comment in said(text):
         last = place
@@ -116,7 +121,9 @@ def parsed(text, name):
             continue
         try:
             if events and len(events[-1].data) < EVENT_SIZE:
-                raise Wrong(f"line {events[-1].line} has fewer than {EVENT_SIZE} bytes, so it must be the last")
+                raise Wrong(
+                    f"line {events[-1].line} has fewer than {EVENT_SIZE} bytes, so it must be the last"
+                )
             if words[0] == "open":
                 if balances is not None:
                     raise Wrong("open stands once, on the first line that says anything")
@@ -145,7 +152,9 @@ def decoded(data):
         return data.decode("utf-8")
     except UnicodeDecodeError as error:
         line = data.count(b"\n", 0, error.start) + 1
-        raise Failure(f"{line}: byte {data[error.start]:02x} hex is not UTF-8 text", WRONG) from None
+        raise Failure(
+            f"{line}: byte {data[error.start]:02x} hex is not UTF-8 text", WRONG
+        ) from None
 
 
 def whole(source):

@@ -1,7 +1,8 @@
 #!/usr/bin/env python3
-"""What ./prs tell, chart and page say of a run: held to document 01's worked input, to the cashiers' cases, and on random lists to the
-model. In a picture no text stands over another; a page needs nothing from outside. With a Chromium on this machine the pages are opened
-at a phone's width and a desk's, and the letters measured as they are drawn; without one that part is skipped by name.
+"""What ./prs tell, chart and page say of a run: held to document 01's worked input, to the
+cashiers' cases, and on random lists to the model. In a picture no text stands over another; a page
+needs nothing from outside. With a Chromium on this machine the pages are opened at a phone's width
+and a desk's, and the letters measured as they are drawn; without one that part is skipped by name.
 
     pictures.py [--seed S] [--lists N]
 
@@ -30,12 +31,14 @@ from money import Ledger, matched
 from shell import one_line, slow_reader
 
 sys.path.insert(0, str(ROOT))
-from replay import chart, page, run, telling, words  # noqa: E402
+from replay import chart, run, telling, words  # noqa: E402
 from replay.failure import Failure  # noqa: E402
 
 SVG = "{http://www.w3.org/2000/svg}"
 PATIENCE = 120
-PARTS = {"full-ether": ["--purses", "0,2", "--events", "427-438"]}  # of the pictures in docs/ that show a part
+PARTS = {
+    "full-ether": ["--purses", "0,2", "--events", "427-438"]
+}  # of the pictures in docs/ that show a part
 BROWSERS = ["chromium", "chromium-browser", "google-chrome"]
 
 passed, failed = 0, 0
@@ -65,7 +68,13 @@ def says(name, text, *lines):
     at = 0
     for line in lines:
         found = text.find(line, at)
-        hold(f"{name}: {line}", (found >= 0, f"not said, or not after what comes before it; the telling ends {text[-900:]!r}"))
+        hold(
+            f"{name}: {line}",
+            (
+                found >= 0,
+                f"not said, or not after what comes before it; the telling ends {text[-900:]!r}",
+            ),
+        )
         at = max(found, at)
 
 
@@ -121,13 +130,59 @@ def tellings():
         "purse 1: 200 - 0 - 0 + 300 = 500, and it has 500: right",
     )
     paid = "open 1000 200\nstart-from 0 to 1 number 1 amount 300\nstart-to 1 from 0 number 1 amount 300\ndeliver 0 to 0\n"
-    says("paid, and both still busy", telling.told(run_of(paid)), "Broken transfers: none", "owed: nothing", "money paid and on no card: 300", "which no card has logged yet", "purse 0 is still busy", "purse 0: 1000 - 0 - 300 + 0 = 700")
-    says("the payee alone has logged", telling.told(run_of(paid + "abort 1")), "payee, purse 1: logged, the entry is on its card (place 0)", "not matched: purse 0 still runs it (epa); nothing is owed yet", "paid and on no card: 300")
-    says("logged, not collected", telling.told(run_of(paid + "abort 1\nabort 0\ncollect 0")), "claims 0", "matched: 300 is owed to purse 0; it stands in the claims once the entry of purse 1 is collected", "owed: 300 to purse 0")
-    says("bytes", telling.told(run_of("open 5 5\nbytes 04 01 00 00 00000000 00000000\nbytes 07 00 00 00 00000000 00000000\nbytes 04")), "bytes 04 01", "0, done: purse 1 is stopped; it was idle", "3, refused: malformed", "bytes 04\n", "3, refused: malformed")
-    says("a refused opening", telling.told(run_of("open 5000001\nabort 0")), "opening refused, 21: a balance above 5,000,000; no event is run")
-    says("33 purses", telling.told(run_of("open" + " 1" * 33)), "opening refused, 20: not 1 to 32 purses")
-    says("a full ether", prs("tell", EXAMPLES / "full-ether.txt").stdout.decode(), "1, done, and the message it sent was lost: purse 0 takes the request, pays 100; the value it sends is lost, since 256 messages stand", "100 left purse 0")
+    says(
+        "paid, and both still busy",
+        telling.told(run_of(paid)),
+        "Broken transfers: none",
+        "owed: nothing",
+        "money paid and on no card: 300",
+        "which no card has logged yet",
+        "purse 0 is still busy",
+        "purse 0: 1000 - 0 - 300 + 0 = 700",
+    )
+    says(
+        "the payee alone has logged",
+        telling.told(run_of(paid + "abort 1")),
+        "payee, purse 1: logged, the entry is on its card (place 0)",
+        "not matched: purse 0 still runs it (epa); nothing is owed yet",
+        "paid and on no card: 300",
+    )
+    says(
+        "logged, not collected",
+        telling.told(run_of(paid + "abort 1\nabort 0\ncollect 0")),
+        "claims 0",
+        "matched: 300 is owed to purse 0; it stands in the claims once the entry of purse 1 is collected",
+        "owed: 300 to purse 0",
+    )
+    says(
+        "bytes",
+        telling.told(
+            run_of(
+                "open 5 5\nbytes 04 01 00 00 00000000 00000000\nbytes 07 00 00 00 00000000 00000000\nbytes 04"
+            )
+        ),
+        "bytes 04 01",
+        "0, done: purse 1 is stopped; it was idle",
+        "3, refused: malformed",
+        "bytes 04\n",
+        "3, refused: malformed",
+    )
+    says(
+        "a refused opening",
+        telling.told(run_of("open 5000001\nabort 0")),
+        "opening refused, 21: a balance above 5,000,000; no event is run",
+    )
+    says(
+        "33 purses",
+        telling.told(run_of("open" + " 1" * 33)),
+        "opening refused, 20: not 1 to 32 purses",
+    )
+    says(
+        "a full ether",
+        prs("tell", EXAMPLES / "full-ether.txt").stdout.decode(),
+        "1, done, and the message it sent was lost: purse 0 takes the request, pays 100; the value it sends is lost, since 256 messages stand",
+        "100 left purse 0",
+    )
 
 
 def words_of(events):
@@ -142,17 +197,35 @@ def words_of(events):
             (5, 0): f"lose {number}",
             (6, 0): f"collect {purse}",
         }.get((kind, spare))
-        used = {1: (purse, other, number, amount), 2: (purse, other, number, amount), 3: (purse, 0, number, 0), 4: (purse, 0, 0, 0), 5: (0, 0, number, 0), 6: (purse, 0, 0, 0)}
-        yield line if used.get(kind) == (purse, other, number, amount) and line else f"bytes {data.hex(' ')}"
+        used = {
+            1: (purse, other, number, amount),
+            2: (purse, other, number, amount),
+            3: (purse, 0, number, 0),
+            4: (purse, 0, 0, 0),
+            5: (0, 0, number, 0),
+            6: (purse, 0, 0, 0),
+        }
+        yield line if used.get(kind) == (
+            purse,
+            other,
+            number,
+            amount,
+        ) and line else f"bytes {data.hex(' ')}"
 
 
 def against_model(seed, lists):
-    """Each telling of a random list says what the model says: answers, balances, what was paid, owed, and claimed."""
+    """Each telling of a random list says what the model says: answers, balances, what was paid,
+    owed, and claimed."""
     rng = random.Random(seed)
     for place in range(lists):
         bench = generate.opened(rng, rng.choice([2, 2, 3, 5]))
         balances = [purse.balance for purse in bench.table[: bench.count]]
-        events = generate.walk(rng, bench, rng.choice(["calm", "rough", "forging", "filling", "archiving-pairs"]), rng.choice([10, 60, 120]))
+        events = generate.walk(
+            rng,
+            bench,
+            rng.choice(["calm", "rough", "forging", "filling", "archiving-pairs"]),
+            rng.choice([10, 60, 120]),
+        )
         text = "open " + " ".join(map(str, balances)) + "\n" + "\n".join(words_of(events))
         done = run_of(text)
         told = telling.told(done)
@@ -173,20 +246,43 @@ def against_model(seed, lists):
                 wrong.append(f"event {step.place}: other balances")
             said = telling.moved(step)
             for name, change in moved.items():
-                if (f"{change} came to purse {name};" if change > 0 else f"{-change} left purse {name};") not in said or f"purse {name} has {has[name]}" not in said:
+                if (
+                    f"{change} came to purse {name};"
+                    if change > 0
+                    else f"{-change} left purse {name};"
+                ) not in said or f"purse {name} has {has[name]}" not in said:
                     wrong.append(f"event {step.place}: {said}")
-            if message and data[0] == 3 and step.purse is not None and not step.done and f"the {telling.message_name(message.kind)} of {message.details.amount} from" not in telling.answered(step):
+            if (
+                message
+                and data[0] == 3
+                and step.purse is not None
+                and not step.done
+                and f"the {telling.message_name(message.kind)} of {message.details.amount} from"
+                not in telling.answered(step)
+            ):
                 wrong.append(f"event {step.place}: {telling.answered(step)}")
         sums = {name: matched(again, name) for name in range(again.count)}
-        want = ", ".join(f"{amount} to purse {name}" for name, amount in sums.items() if amount) or "nothing"
+        want = (
+            ", ".join(f"{amount} to purse {name}" for name, amount in sums.items() if amount)
+            or "nothing"
+        )
         lost = sum(d.amount for d in ledger.paid) - sum(d.amount for d in ledger.arrived)
-        entries = {d for _, d in again.archive[: again.archive_count]} | {d for p in again.table[: again.count] for d in p.log[: p.logged]}
-        for line in [f"  owed: {want}\n", f"money paid and on no card: {lost}\n", f"claims {model.claims(again)}\n", f"Broken transfers: {len(entries) or 'none'}\n"]:
+        entries = {d for _, d in again.archive[: again.archive_count]} | {
+            d for p in again.table[: again.count] for d in p.log[: p.logged]
+        }
+        for line in [
+            f"  owed: {want}\n",
+            f"money paid and on no card: {lost}\n",
+            f"claims {model.claims(again)}\n",
+            f"Broken transfers: {len(entries) or 'none'}\n",
+        ]:
             if line not in told:
                 wrong.append(f"not said: {line!r}")
         ledger.stopped()
         for name in range(again.count):
-            arrived = sum(d.amount for d in ledger.arrived if d.payer == name), sum(d.amount for d in ledger.arrived if d.payee == name)
+            arrived = sum(d.amount for d in ledger.arrived if d.payer == name), sum(
+                d.amount for d in ledger.arrived if d.payee == name
+            )
             line = f"purse {name}: {balances[name]} - {arrived[0]} - {matched(again, name)} + {arrived[1]} = {again.table[name].balance}, and it has {again.table[name].balance}: right"
             if line not in told:
                 wrong.append(f"not said: {line!r}")
@@ -197,7 +293,11 @@ def against_model(seed, lists):
 def disagreeing():
     """Another input's listing is never shown beside a run."""
     kept = run.listing
-    for name, listing in [("another input's", (EXAMPLES / "undisturbed.out").read_text()), ("none", ""), ("a cut one", "PRS 1\n1 0\n")]:
+    for name, listing in [
+        ("another input's", (EXAMPLES / "undisturbed.out").read_text()),
+        ("none", ""),
+        ("a cut one", "PRS 1\n1 0\n"),
+    ]:
         run.listing = lambda data: listing
         try:
             run_of((EXAMPLES / "pulled-out.txt").read_text())
@@ -212,7 +312,8 @@ def disagreeing():
 
 
 def texts_of(picture):
-    """Each text of a picture with its box: left, top, right, bottom. Letters are taken as 0.6 of their size wide, as most are at the most."""
+    """Each text of a picture with its box: left, top, right, bottom. Letters are taken as 0.6 of
+    their size wide, as most are at the most."""
     for text in xml.fromstring(picture).iter(f"{SVG}text"):
         size, x, y = float(text.get("font-size")), float(text.get("x")), float(text.get("y"))
         width = len(text.text or "") * size * 0.6
@@ -244,36 +345,125 @@ def pictures():
         overlaps(path.name, ran.stdout.decode())
         kept = ROOT / "docs" / "pictures" / f"{path.stem}.svg"
         part = prs("chart", path, *PARTS.get(path.stem, []))
-        hold(f"docs/pictures/{kept.name} is of today", (kept.read_bytes() == part.stdout, "draw it again: ./prs chart"))
+        hold(
+            f"docs/pictures/{kept.name} is of today",
+            (kept.read_bytes() == part.stdout, "draw it again: ./prs chart"),
+        )
     texts = [text for text, _ in texts_of(prs("chart", EXAMPLES / "undisturbed.txt").stdout)]
     for want in ["−300, has 700", "+300, has 500", "takes the acknowledge", "nothing is owed"]:
         hold(f"money to be seen: {want}", (want in texts, texts))
     texts = [text for text, _ in texts_of(prs("chart", EXAMPLES / "pulled-out.txt").stdout)]
-    for want in ["stopped, logs 300", "1 in its log", "entry of 300 collected", "to archive place 1", "owed: 300 to purse 0", "paid and on no card: 300", "value refused"]:
+    for want in [
+        "stopped, logs 300",
+        "1 in its log",
+        "entry of 300 collected",
+        "to archive place 1",
+        "owed: 300 to purse 0",
+        "paid and on no card: 300",
+        "value refused",
+    ]:
         hold(f"entries and what is owed: {want}", (want in texts, texts))
-    again = run_of("open 9 9\nstart-from 0 to 1 number 1 amount 3\nstart-to 1 from 0 number 1 amount 3\n" + "deliver 0 to 1\n" * 2 + "deliver 0 to 0\n" * 2)
+    again = run_of(
+        "open 9 9\nstart-from 0 to 1 number 1 amount 3\nstart-to 1 from 0 number 1 amount 3\n"
+        + "deliver 0 to 1\n" * 2
+        + "deliver 0 to 0\n" * 2
+    )
     boxes = [text for text, _ in texts_of(chart.drawn(again))]
-    hold("again is said after a delivery that was done, not after a refused one", (boxes.count("request refused") == 2 and boxes.count("request again refused") == 1 and "takes the request" in boxes, boxes))
-    said = [text for text, _ in texts_of(chart.drawn(run_of("open 9 9\nbytes 02 01 00 00 00000001 00000003\nbytes 03 01 00 00 00000000 00000000\nbytes ff")))]
-    hold("bytes are drawn as what they say", ("is to take 3 from 0" in said and "request refused" in said and "has 9" in said, said))
+    hold(
+        "again is said after a delivery that was done, not after a refused one",
+        (
+            boxes.count("request refused") == 2
+            and boxes.count("request again refused") == 1
+            and "takes the request" in boxes,
+            boxes,
+        ),
+    )
+    said = [
+        text
+        for text, _ in texts_of(
+            chart.drawn(
+                run_of(
+                    "open 9 9\nbytes 02 01 00 00 00000001 00000003\nbytes 03 01 00 00 00000000 00000000\nbytes ff"
+                )
+            )
+        )
+    ]
+    hold(
+        "bytes are drawn as what they say",
+        ("is to take 3 from 0" in said and "request refused" in said and "has 9" in said, said),
+    )
     long = [text for text, _ in texts_of(prs("chart", EXAMPLES / "full-ether.txt").stdout)]
-    hold("heads stand again in a long picture", (long.count("purse 2") >= 438 // 20, long.count("purse 2")))
-    part = prs("chart", EXAMPLES / "full-ether.txt", "--purses", "0,2", "--events", "425-438").stdout
+    hold(
+        "heads stand again in a long picture",
+        (long.count("purse 2") >= 438 // 20, long.count("purse 2")),
+    )
+    part = prs(
+        "chart", EXAMPLES / "full-ether.txt", "--purses", "0,2", "--events", "425-438"
+    ).stdout
     overlaps("a part of full-ether", part.decode())
     some = [text for text, _ in texts_of(part)]
-    hold("a choice of purses and events", ("purse 0" in some and "purse 2" in some and "purse 1" not in some, some), ("429" in some and "424" not in some and "425" not in some, some), ("before event 425" in some and "after event 438" in some and "has 916" in some and "value lost at once" in some, some))
-    one = [text for text, _ in texts_of(prs("chart", EXAMPLES / "full-ether.txt", "--events", "3").stdout)]
+    hold(
+        "a choice of purses and events",
+        ("purse 0" in some and "purse 2" in some and "purse 1" not in some, some),
+        ("429" in some and "424" not in some and "425" not in some, some),
+        (
+            "before event 425" in some
+            and "after event 438" in some
+            and "has 916" in some
+            and "value lost at once" in some,
+            some,
+        ),
+    )
+    one = [
+        text
+        for text, _ in texts_of(prs("chart", EXAMPLES / "full-ether.txt", "--events", "3").stdout)
+    ]
     hold("one event", ("after event 3" in one and "−1, has 999" in one and "from 2" in one, one))
-    nobody = [text for text, _ in texts_of(chart.drawn(run_of("open 9 9\nabort 200\nbytes ff"), with_words=False))]
-    hold("events for no purse have their words on a page", ("abort refused, answer 4" in nobody and "event refused, answer 3" in nobody, nobody))
+    nobody = [
+        text
+        for text, _ in texts_of(
+            chart.drawn(run_of("open 9 9\nabort 200\nbytes ff"), with_words=False)
+        )
+    ]
+    hold(
+        "events for no purse have their words on a page",
+        ("abort refused, answer 4" in nobody and "event refused, answer 3" in nobody, nobody),
+    )
     refused = chart.drawn(run_of("open 5000001 1"))
     hold("a refused opening is drawn", ("opening refused, 21" in refused, refused))
-    wide = run_of("open" + " 5000000" * 32 + "\n" + "".join(f"start-from {n} to {31 - n} number 4294967295 amount 5000000\nstart-from {n} to 255 number 4294967295 amount 4294967295\n" for n in range(32)) + "bytes " + "f" * 24)
+    wide = run_of(
+        "open"
+        + " 5000000" * 32
+        + "\n"
+        + "".join(
+            f"start-from {n} to {31 - n} number 4294967295 amount 5000000\nstart-from {n} to 255 number 4294967295 amount 4294967295\n"
+            for n in range(32)
+        )
+        + "bytes "
+        + "f" * 24
+    )
     overlaps("32 purses, the largest numbers", chart.drawn(wide))
-    bad = [("--purses", "2"), ("--purses", "0;1"), ("--purses", ""), ("--purses", "-1"), ("--events", "0-3"), ("--events", "3-2"), ("--events", "1-9"), ("--events", "x"), ("--events", "-"), ("--events", "٣")]
+    bad = [
+        ("--purses", "2"),
+        ("--purses", "0;1"),
+        ("--purses", ""),
+        ("--purses", "-1"),
+        ("--events", "0-3"),
+        ("--events", "3-2"),
+        ("--events", "1-9"),
+        ("--events", "x"),
+        ("--events", "-"),
+        ("--events", "٣"),
+    ]
     for option, value in bad:
         ran = prs("chart", EXAMPLES / "undisturbed.txt", f"{option}={value}")
-        hold(f"chart {option}={value}", (ran.returncode == 2 and one_line(ran.stderr) and not ran.stdout, (ran.returncode, ran.stderr)))
+        hold(
+            f"chart {option}={value}",
+            (
+                ran.returncode == 2 and one_line(ran.stderr) and not ran.stdout,
+                (ran.returncode, ran.stderr),
+            ),
+        )
 
 
 # ---- Pages
@@ -292,7 +482,9 @@ class Reading(html.parser.HTMLParser):
         for name, value in attributes:
             if name == "id":
                 self.ids.append(value)
-            if name in ("src", "href", "srcset", "action", "data", "xlink:href") and not (value or "").startswith("#"):
+            if name in ("src", "href", "srcset", "action", "data", "xlink:href") and not (
+                value or ""
+            ).startswith("#"):
                 self.reaches.append(value)
             if name.startswith("on"):
                 self.reaches.append(name)
@@ -303,24 +495,49 @@ class Reading(html.parser.HTMLParser):
 
 def pages(room):
     odd = room / "<img src=x onerror=alert(1)>&.txt"
-    odd.write_text("# <script>alert(1)</script> & more\n" + (EXAMPLES / "pulled-out.txt").read_text())
+    odd.write_text(
+        "# <script>alert(1)</script> & more\n" + (EXAMPLES / "pulled-out.txt").read_text()
+    )
     ran = prs("page", *sorted(EXAMPLES.glob("*.txt")), odd)
     text = ran.stdout.decode()
     reading = Reading(text)
     seen = "".join(reading.seen)
     hold("a page of every example", (ran.returncode == 0 and not ran.stderr, ran.stderr))
-    hold("nothing from outside", (not reading.reaches, reading.reaches), (not {"script", "link", "iframe", "object", "img"} & set(reading.tags), set(reading.tags)), (not re.search(r"url\(|@import", text), "a style reaches out"))
+    hold(
+        "nothing from outside",
+        (not reading.reaches, reading.reaches),
+        (not {"script", "link", "iframe", "object", "img"} & set(reading.tags), set(reading.tags)),
+        (not re.search(r"url\(|@import", text), "a style reaches out"),
+    )
     hold("names of its own", (len(reading.ids) == len(set(reading.ids)), reading.ids))
-    hold("a name and a comment are words", ("<script>alert(1)</script> & more" in seen and odd.name in seen, seen[:200]))
+    hold(
+        "a name and a comment are words",
+        ("<script>alert(1)</script> & more" in seen and odd.name in seen, seen[:200]),
+    )
     for path in sorted(EXAMPLES.glob("*.txt")):
         listing = path.with_suffix(".out").read_text()
         told = prs("tell", path).stdout.decode()
         hold(f"page: the listing of {path.name}", (listing in seen, "it is not there"))
-        lines = [line.strip() for line in told.splitlines()[2:] if line.strip() and not re.match(r"\s*\d+\.? ", line)]
+        lines = [
+            line.strip()
+            for line in told.splitlines()[2:]
+            if line.strip() and not re.match(r"\s*\d+\.? ", line)
+        ]
         missing = [line for line in lines if line.removeprefix("Demand 3: ") not in seen]
         hold(f"page: the telling of {path.name}", (not missing, missing[:3]))
-        hold(f"page: the chart of {path.name}", (chart.drawn(run.Run(words.read(str(path))), with_words=False).split(">", 1)[1].strip() in text, "it is not there"))
-        overlaps(f"page: {path.name}", chart.drawn(run.Run(words.read(str(path))), with_words=False))
+        hold(
+            f"page: the chart of {path.name}",
+            (
+                chart.drawn(run.Run(words.read(str(path))), with_words=False)
+                .split(">", 1)[1]
+                .strip()
+                in text,
+                "it is not there",
+            ),
+        )
+        overlaps(
+            f"page: {path.name}", chart.drawn(run.Run(words.read(str(path))), with_words=False)
+        )
     return ran.stdout
 
 
@@ -353,8 +570,19 @@ def browsed(room, data):
     measured = html.escape(data.decode().replace("</body>", MEASURE + "</body>"))
     for width, what in [(390, "a phone"), (1280, "a desk")]:
         # in a frame, since a browser's own window may not become as narrow as a phone
-        (room / "page.html").write_text(f'<!DOCTYPE html><meta charset="utf-8"><iframe style="border:0;width:{width}px;height:900px" srcdoc="{measured}"></iframe>')
-        command = [browser, "--headless", "--no-sandbox", "--disable-gpu", f"--user-data-dir={room / 'browser'}", "--window-size=1400,1000", "--dump-dom", f"file://{room / 'page.html'}"]
+        (room / "page.html").write_text(
+            f'<!DOCTYPE html><meta charset="utf-8"><iframe style="border:0;width:{width}px;height:900px" srcdoc="{measured}"></iframe>'
+        )
+        command = [
+            browser,
+            "--headless",
+            "--no-sandbox",
+            "--disable-gpu",
+            f"--user-data-dir={room / 'browser'}",
+            "--window-size=1400,1000",
+            "--dump-dom",
+            f"file://{room / 'page.html'}",
+        ]
         try:
             ran = subprocess.run(command, capture_output=True, timeout=PATIENCE)
         except subprocess.TimeoutExpired:
@@ -369,7 +597,10 @@ def browsed(room, data):
         hold(
             f"the page at {what}'s width",
             (got["window"] == width, f"the window is {got['window']} wide"),
-            (got["wide"] <= got["window"], f"it is {got['wide']} wide in a window of {got['window']}"),
+            (
+                got["wide"] <= got["window"],
+                f"it is {got['wide']} wide in a window of {got['window']}",
+            ),
             (got["pictures"] == 8, got["pictures"]),
             (not got["wrong"], got["wrong"]),
             (beside == (width == 1280), f"its parts stand at {got['parts']}"),
@@ -383,18 +614,48 @@ def outputs():
     for command in ["list", "tell", "chart", "page"]:
         path = EXAMPLES / "full-ether.txt"
         with open("/dev/full", "wb") as full:
-            ran = subprocess.run([ROOT / "prs", command, path], stdout=full, stderr=subprocess.PIPE, stdin=subprocess.DEVNULL, timeout=PATIENCE)
-        hold(f"{command} on a full device", (ran.returncode == 1 and one_line(ran.stderr) and b"space" in ran.stderr, ran.stderr))
-        ran = subprocess.run(["sh", "-c", '"$0" "$1" "$2" >&-', ROOT / "prs", command, path], stderr=subprocess.PIPE, stdin=subprocess.DEVNULL, timeout=PATIENCE)
-        hold(f"{command} on a closed output", (ran.returncode == 1 and one_line(ran.stderr), ran.stderr))
+            ran = subprocess.run(
+                [ROOT / "prs", command, path],
+                stdout=full,
+                stderr=subprocess.PIPE,
+                stdin=subprocess.DEVNULL,
+                timeout=PATIENCE,
+            )
+        hold(
+            f"{command} on a full device",
+            (ran.returncode == 1 and one_line(ran.stderr) and b"space" in ran.stderr, ran.stderr),
+        )
+        ran = subprocess.run(
+            ["sh", "-c", '"$0" "$1" "$2" >&-', ROOT / "prs", command, path],
+            stderr=subprocess.PIPE,
+            stdin=subprocess.DEVNULL,
+            timeout=PATIENCE,
+        )
+        hold(
+            f"{command} on a closed output",
+            (ran.returncode == 1 and one_line(ran.stderr), ran.stderr),
+        )
         for handler, what in [(signal.SIG_IGN, "ignored"), (signal.SIG_DFL, "not ignored")]:
             ours, theirs = os.pipe()
             os.close(ours)
-            ran = subprocess.run([ROOT / "prs", command, path], stdout=theirs, stderr=subprocess.PIPE, stdin=subprocess.DEVNULL, timeout=PATIENCE, preexec_fn=lambda: signal.signal(signal.SIGPIPE, handler))
+            ran = subprocess.run(
+                [ROOT / "prs", command, path],
+                stdout=theirs,
+                stderr=subprocess.PIPE,
+                stdin=subprocess.DEVNULL,
+                timeout=PATIENCE,
+                preexec_fn=lambda: signal.signal(signal.SIGPIPE, handler),
+            )
             os.close(theirs)
-            hold(f"{command} on a closed pipe, the signal {what}", (ran.returncode == 1 and one_line(ran.stderr), (ran.returncode, ran.stderr)))
+            hold(
+                f"{command} on a closed pipe, the signal {what}",
+                (ran.returncode == 1 and one_line(ran.stderr), (ran.returncode, ran.stderr)),
+            )
     got, said, status = slow_reader([ROOT / "prs", "tell", EXAMPLES / "full-ether.txt"], b"")
-    hold("tell on an output that does not wait", (got == prs("tell", EXAMPLES / "full-ether.txt").stdout and status == 0, (len(got), said)))
+    hold(
+        "tell on an output that does not wait",
+        (got == prs("tell", EXAMPLES / "full-ether.txt").stdout and status == 0, (len(got), said)),
+    )
 
 
 def main():

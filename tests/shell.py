@@ -1,9 +1,11 @@
 #!/usr/bin/env python3
-"""What users meet at ./prs: nothing fails silently. Inputs that cannot be read, outputs that cannot be written, programs that are older than
-their sources, arguments that mean nothing: each must end in one line on standard error, a status above 0, and no listing that looks whole.
+"""What users meet at ./prs: nothing fails silently. Inputs that cannot be read, outputs that cannot
+be written, programs that are older than their sources, arguments that mean nothing: each must end
+in one line on standard error, a status above 0, and no listing that looks whole.
 
-The checkouts in which programs are built are toys: a copy of ./prs beside two crates, and an rt that only writes down that it was called.
-Last line 'N passed, M failed'; the exit status is 1 on any failure.
+The checkouts in which programs are built are toys: a copy of ./prs beside two crates, and an rt
+that only writes down that it was called. Last line 'N passed, M failed'; the exit status is 1 on
+any failure.
 """
 
 import fcntl
@@ -43,7 +45,13 @@ def hold(name, *facts):
 
 
 def run(command, **options):
-    options = {"stdin": subprocess.DEVNULL, "stdout": subprocess.PIPE, "stderr": subprocess.PIPE, "timeout": PATIENCE, **options}
+    options = {
+        "stdin": subprocess.DEVNULL,
+        "stdout": subprocess.PIPE,
+        "stderr": subprocess.PIPE,
+        "timeout": PATIENCE,
+        **options,
+    }
     if "input" in options:
         del options["stdin"]
     return subprocess.run([str(word) for word in command], **options)
@@ -64,7 +72,10 @@ def loud(name, ran, says=b"", status=None):
         name,
         (one_line(ran.stderr), f"said {ran.stderr[:300]!r}"),
         (says in ran.stderr, f"{says!r} is not in {ran.stderr[:300]!r}"),
-        (ran.returncode == status if status else 0 < ran.returncode < 126, f"status {ran.returncode}"),
+        (
+            ran.returncode == status if status else 0 < ran.returncode < 126,
+            f"status {ran.returncode}",
+        ),
         (not looks_whole(ran.stdout), f"listed {ran.stdout[-60:] if ran.stdout else b''!r}"),
     )
 
@@ -73,7 +84,8 @@ def loud(name, ran, says=b"", status=None):
 
 
 def from_terminal(data):
-    """A descriptor that gives the data and then fails: a terminal's other side, whose user has hung up."""
+    """A descriptor that gives the data and then fails: a terminal's other side, whose user has
+    hung up."""
     ours, theirs = pty.openpty()
     tty.setraw(theirs)
     os.write(theirs, data)
@@ -89,23 +101,42 @@ def inputs():
         os.close(folder)
         check(f"{name}: a closed input", run(["sh", "-c", '"$0" <&-', command]), b"")
         written = os.open(os.devnull, os.O_WRONLY)
-        check(f"{name}: an input that is open for writing alone", run([command], stdin=written), b"")
+        check(
+            f"{name}: an input that is open for writing alone", run([command], stdin=written), b""
+        )
         os.close(written)
-        for length, what in [(0, "at once"), (1, "in the opening"), (9, "after the opening"), (9 + 36, "after three events"), (9 + 40, "inside an event")]:
+        for length, what in [
+            (0, "at once"),
+            (1, "in the opening"),
+            (9, "after the opening"),
+            (9 + 36, "after three events"),
+            (9 + 40, "inside an event"),
+        ]:
             broken = from_terminal(WORKED[:length])
-            check(f"{name}: an input that fails {what}", run([command], stdin=broken), b"Input/output error")
+            check(
+                f"{name}: an input that fails {what}",
+                run([command], stdin=broken),
+                b"Input/output error",
+            )
             os.close(broken)
     # what is merely not ready is waited for
     ours, theirs = os.pipe()
     fcntl.fcntl(ours, fcntl.F_SETFL, os.O_NONBLOCK)
-    with subprocess.Popen([SCRIPT], stdin=ours, stdout=subprocess.PIPE, stderr=subprocess.PIPE) as program:
+    with subprocess.Popen(
+        [SCRIPT], stdin=ours, stdout=subprocess.PIPE, stderr=subprocess.PIPE
+    ) as program:
         os.close(ours)
         for start in range(0, len(WORKED), 7):
             os.write(theirs, WORKED[start : start + 7])
             time.sleep(0.01)
         os.close(theirs)
         out, said = program.communicate(timeout=PATIENCE)
-        hold("an input that is not ready yet", (out == LISTED, f"listed {out[-60:]!r}"), (not said, said), (program.returncode == 0, program.returncode))
+        hold(
+            "an input that is not ready yet",
+            (out == LISTED, f"listed {out[-60:]!r}"),
+            (not said, said),
+            (program.returncode == 0, program.returncode),
+        )
 
 
 def told(name, ran, says=b"", status=None):
@@ -122,9 +153,17 @@ def slow_reader(command, data, **options):
     """Standard output as a pipe that does not wait, read only after a while."""
     ours, theirs = os.pipe()
     fcntl.fcntl(theirs, fcntl.F_SETFL, os.O_NONBLOCK)
-    with subprocess.Popen([str(word) for word in command], stdin=subprocess.PIPE, stdout=theirs, stderr=subprocess.PIPE, **options) as program:
+    with subprocess.Popen(
+        [str(word) for word in command],
+        stdin=subprocess.PIPE,
+        stdout=theirs,
+        stderr=subprocess.PIPE,
+        **options,
+    ) as program:
         os.close(theirs)
-        feeding = threading.Thread(target=lambda: (program.stdin.write(data), program.stdin.close()))
+        feeding = threading.Thread(
+            target=lambda: (program.stdin.write(data), program.stdin.close())
+        )
         feeding.start()
         time.sleep(0.3)
         got = b""
@@ -137,7 +176,8 @@ def slow_reader(command, data, **options):
 
 
 def small_files():
-    """For a child: files grow to 2,000 bytes, and a write past that fails instead of ending the program."""
+    """For a child: files grow to 2,000 bytes, and a write past that fails instead of ending the
+    program."""
     signal.signal(signal.SIGXFSZ, signal.SIG_IGN)
     resource.setrlimit(resource.RLIMIT_FSIZE, (2000, 2000))
 
@@ -145,19 +185,39 @@ def small_files():
 def outputs():
     for command, name in [(SCRIPT, "./prs"), (PRS, "the program")]:
         check = loud if command == SCRIPT else told
-        for data, what in [(WORKED, "a short listing"), (LONG, "a long listing"), (b"", "a refused opening")]:
+        for data, what in [
+            (WORKED, "a short listing"),
+            (LONG, "a long listing"),
+            (b"", "a refused opening"),
+        ]:
             with open("/dev/full", "wb") as full:
-                check(f"{name}: {what} on a full device", run([command], input=data, stdout=full), b"space")
-            check(f"{name}: {what} on a closed output", run(["sh", "-c", '"$0" >&-', command], input=data), b"")
+                check(
+                    f"{name}: {what} on a full device",
+                    run([command], input=data, stdout=full),
+                    b"space",
+                )
+            check(
+                f"{name}: {what} on a closed output",
+                run(["sh", "-c", '"$0" >&-', command], input=data),
+                b"",
+            )
             ours, theirs = os.pipe()
             os.close(ours)
-            ran = run([command], input=data, stdout=theirs, preexec_fn=lambda: signal.signal(signal.SIGPIPE, signal.SIG_IGN))
+            ran = run(
+                [command],
+                input=data,
+                stdout=theirs,
+                preexec_fn=lambda: signal.signal(signal.SIGPIPE, signal.SIG_IGN),
+            )
             check(f"{name}: {what} on a closed pipe, the signal ignored", ran, b"")
             ran = run([command], input=data, stdout=theirs)
             if command == SCRIPT:
                 check(f"{name}: {what} on a closed pipe", ran, b"its reader has gone")
             else:
-                hold(f"{name}: {what} on a closed pipe", (ran.returncode == -signal.SIGPIPE, f"status {ran.returncode}"))
+                hold(
+                    f"{name}: {what} on a closed pipe",
+                    (ran.returncode == -signal.SIGPIPE, f"status {ran.returncode}"),
+                )
             os.close(theirs)
     whole = run([PRS], input=LONG).stdout
     with tempfile.TemporaryFile() as small:
@@ -165,7 +225,10 @@ def outputs():
         small.seek(0)
         got = small.read()
         loud("a file that may not grow", ran, b"File too large")
-        hold("a file that may not grow has the listing's start", (got == whole[: len(got)] and len(got) == 2000, f"{len(got)} bytes"))
+        hold(
+            "a file that may not grow has the listing's start",
+            (got == whole[: len(got)] and len(got) == 2000, f"{len(got)} bytes"),
+        )
     got, said, status = slow_reader([SCRIPT], LONG)
     hold(
         "an output that does not wait loses nothing",
@@ -173,10 +236,21 @@ def outputs():
         (not said, said),
         (status == 0, f"status {status}"),
     )
-    reader = subprocess.run(f"'{SCRIPT}' | head -n 1", shell=True, input=LONG, capture_output=True, timeout=PATIENCE)
-    hold("a reader that leaves", (reader.stdout == b"PRS 1\n", reader.stdout), (one_line(reader.stderr), reader.stderr))
+    reader = subprocess.run(
+        f"'{SCRIPT}' | head -n 1", shell=True, input=LONG, capture_output=True, timeout=PATIENCE
+    )
+    hold(
+        "a reader that leaves",
+        (reader.stdout == b"PRS 1\n", reader.stdout),
+        (one_line(reader.stderr), reader.stderr),
+    )
     ran = run([SCRIPT], input=WORKED)
-    hold("the worked listing", (ran.stdout == LISTED, ran.stdout), (not ran.stderr, ran.stderr), (ran.returncode == 0, ran.returncode))
+    hold(
+        "the worked listing",
+        (ran.stdout == LISTED, ran.stdout),
+        (not ran.stderr, ran.stderr),
+        (ran.returncode == 0, ran.returncode),
+    )
 
 
 # ---- Arguments
@@ -200,11 +274,23 @@ def arguments():
         loud(f"./prs {' '.join(words)}", run([SCRIPT, *words], cwd=ROOT, input=WORKED), says, 2)
     for words in [["--help"], ["-h"]]:
         ran = run([SCRIPT, *words])
-        hold(f"./prs {words[0]}", (ran.returncode == 0, ran.returncode), (b"tell FILE.txt" in ran.stdout, ran.stdout), (not ran.stderr, ran.stderr))
+        hold(
+            f"./prs {words[0]}",
+            (ran.returncode == 0, ran.returncode),
+            (b"tell FILE.txt" in ran.stdout, ran.stdout),
+            (not ran.stderr, ran.stderr),
+        )
     ran = run([SCRIPT, "--version"])
-    hold("./prs --version", (ran.stdout == b"PRS 1\n", ran.stdout), (ran.returncode == 0, ran.returncode))
+    hold(
+        "./prs --version",
+        (ran.stdout == b"PRS 1\n", ran.stdout),
+        (ran.returncode == 0, ran.returncode),
+    )
     with open("/dev/full", "wb") as full:
-        hold("--help on a full device", (run([SCRIPT, "--help"], stdout=full).returncode != 0, "status 0"))
+        hold(
+            "--help on a full device",
+            (run([SCRIPT, "--help"], stdout=full).returncode != 0, "status 0"),
+        )
 
 
 def links(room):
@@ -215,9 +301,15 @@ def links(room):
     (room / "in" / "up").symlink_to("../near")
     for name in ["far", "near", "in/up"]:
         ran = run([room / name], input=WORKED, cwd="/")
-        hold(f"a link: {name}", (ran.stdout == LISTED, ran.stdout[:80]), (not ran.stderr, ran.stderr))
+        hold(
+            f"a link: {name}", (ran.stdout == LISTED, ran.stdout[:80]), (not ran.stderr, ran.stderr)
+        )
         ran = run([room / name, "list", ROOT / "examples/undisturbed.txt"], cwd=room)
-        hold(f"a link: {name} list", (looks_whole(ran.stdout), ran.stdout[:80]), (not ran.stderr, ran.stderr))
+        hold(
+            f"a link: {name} list",
+            (looks_whole(ran.stdout), ran.stdout[:80]),
+            (not ran.stderr, ran.stderr),
+        )
     shutil.copy(SCRIPT, room / "alone")
     loud("a copy of ./prs alone", run([room / "alone"], input=WORKED), b"crates.txt", 2)
     # python takes nothing from the folder it is started in
@@ -226,7 +318,11 @@ def links(room):
     (room / "replay").mkdir()
     (room / "replay" / "__init__.py").write_text("raise SystemExit('taken from here')\n")
     ran = run([SCRIPT, "list", ROOT / "examples/undisturbed.txt"], cwd=room)
-    hold("files of the folder it is started in", (looks_whole(ran.stdout), ran.stdout[:80]), (ran.returncode == 0, ran.stderr))
+    hold(
+        "files of the folder it is started in",
+        (looks_whole(ran.stdout), ran.stdout[:80]),
+        (ran.returncode == 0, ran.stderr),
+    )
 
 
 # ---- Programs that are older than their sources
@@ -259,7 +355,9 @@ class Toy:
             (self.it / "crates" / name / "must-fail" / "wrong.edit").write_text("")
             (self.it / "crates" / name / "src" / "lib.rt").write_text("")
         (self.it / "crates/base/src/more.rt").write_text("")
-        (self.it / "crates.txt").write_text("# two crates\nbase:\nother: base\nprs: base io  # io is the kit's\n")
+        (self.it / "crates.txt").write_text(
+            "# two crates\nbase:\nother: base\nprs: base io  # io is the kit's\n"
+        )
         shutil.copy(SCRIPT, self.it / "prs")
         (room / "bin").mkdir()
         (room / "bin" / "rt").write_text(BUILDS.format(room=room))
@@ -269,7 +367,12 @@ class Toy:
         self.path = f"{room / 'bin'}:{os.environ['PATH']}"
 
     def run(self, *words, **options):
-        environment = {**os.environ, "PATH": self.path, "TMPDIR": str(self.room / "tmp"), **options.pop("env", {})}
+        environment = {
+            **os.environ,
+            "PATH": self.path,
+            "TMPDIR": str(self.room / "tmp"),
+            **options.pop("env", {}),
+        }
         return run([self.it / "prs", *words], env=environment, input=b"", **options)
 
     @property
@@ -290,17 +393,40 @@ def later(path):
 def stale(room):
     toy = Toy(room)
     ran = toy.run()
-    hold("built on first use", (ran.stdout == b"build 1\n", ran.stdout), (toy.calls == 1, toy.calls), (ran.returncode == 0, ran.stderr), (not toy.left(), toy.left()))
+    hold(
+        "built on first use",
+        (ran.stdout == b"build 1\n", ran.stdout),
+        (toy.calls == 1, toy.calls),
+        (ran.returncode == 0, ran.stderr),
+        (not toy.left(), toy.left()),
+    )
     ran = toy.run()
-    hold("not built again", (ran.stdout == b"build 1\n", ran.stdout), (toy.calls == 1, toy.calls), (not ran.stderr, ran.stderr))
+    hold(
+        "not built again",
+        (ran.stdout == b"build 1\n", ran.stdout),
+        (toy.calls == 1, toy.calls),
+        (not ran.stderr, ran.stderr),
+    )
     changes = [
         ("a source of its own", lambda: later(toy.it / "crates/prs/src/lib.rt"), True),
         ("a source of a crate it needs", lambda: later(toy.it / "crates/base/src/lib.rt"), True),
         ("crates.txt", lambda: later(toy.it / "crates.txt"), True),
-        ("a source that went", lambda: (time.sleep(0.02), (toy.it / "crates/base/src/more.rt").unlink()), True),
-        ("a source that came", lambda: (time.sleep(0.02), (toy.it / "crates/base/src/new.rt").write_text("")), True),
+        (
+            "a source that went",
+            lambda: (time.sleep(0.02), (toy.it / "crates/base/src/more.rt").unlink()),
+            True,
+        ),
+        (
+            "a source that came",
+            lambda: (time.sleep(0.02), (toy.it / "crates/base/src/new.rt").write_text("")),
+            True,
+        ),
         ("a crate it does not need", lambda: later(toy.it / "crates/other/src/lib.rt"), False),
-        ("an edit that must fail", lambda: later(toy.it / "crates/base/must-fail/wrong.edit"), False),
+        (
+            "an edit that must fail",
+            lambda: later(toy.it / "crates/base/must-fail/wrong.edit"),
+            False,
+        ),
         ("a program that went", lambda: (toy.it / "target/bin/prs").unlink(), True),
     ]
     for what, change, again in changes:
@@ -308,15 +434,24 @@ def stale(room):
         change()
         ran = toy.run()
         want = before + again
-        hold(f"after a change of {what}", (toy.calls == want, f"{toy.calls - before} builds"), (ran.stdout == f"build {want}\n".encode() or not again, ran.stdout))
+        hold(
+            f"after a change of {what}",
+            (toy.calls == want, f"{toy.calls - before} builds"),
+            (ran.stdout == f"build {want}\n".encode() or not again, ran.stdout),
+        )
         toy.run()
-        hold(f"once after a change of {what}", (toy.calls == want, f"{toy.calls - want} builds more"))
+        hold(
+            f"once after a change of {what}", (toy.calls == want, f"{toy.calls - want} builds more")
+        )
     (toy.room / "edit").touch()
     later(toy.it / "crates/prs/src/lib.rt")
     before = toy.calls
     toy.run()
     toy.run()
-    hold("a source that changed while it was built", (toy.calls == before + 2, f"{toy.calls - before} builds"))
+    hold(
+        "a source that changed while it was built",
+        (toy.calls == before + 2, f"{toy.calls - before} builds"),
+    )
     refused_builds(toy)
 
 
@@ -332,7 +467,11 @@ def refused_builds(toy):
         (not toy.left(), toy.left()),
     )
     (toy.room / "refuse").unlink()
-    without = os.pathsep.join(folder for folder in os.environ["PATH"].split(os.pathsep) if not (Path(folder) / "rt").exists())
+    without = os.pathsep.join(
+        folder
+        for folder in os.environ["PATH"].split(os.pathsep)
+        if not (Path(folder) / "rt").exists()
+    )
     if shutil.which("awk", path=without) and shutil.which("find", path=without):
         loud("out of date, and no rt", toy.run(env={"PATH": without}), b"rt is missing", 2)
         shutil.rmtree(toy.it / "target")
@@ -364,7 +503,8 @@ def read_only(toy):
 
 
 def interrupted(toy):
-    """Ctrl-C and other signals in a build: it ends soon, and leaves no temporary file, rt's own ones neither."""
+    """Ctrl-C and other signals in a build: it ends soon, and leaves no temporary file, rt's own
+    ones neither."""
     (toy.room / "slow").touch()
     for sign in [signal.SIGINT, signal.SIGTERM, signal.SIGHUP]:
         shutil.rmtree(toy.it / "target", ignore_errors=True)
@@ -372,7 +512,12 @@ def interrupted(toy):
         environment = {**os.environ, "PATH": toy.path, "TMPDIR": str(toy.room / "tmp")}
         began = time.monotonic()
         program = subprocess.Popen(
-            [toy.it / "prs"], stdin=subprocess.DEVNULL, stdout=subprocess.PIPE, stderr=subprocess.PIPE, env=environment, start_new_session=True
+            [toy.it / "prs"],
+            stdin=subprocess.DEVNULL,
+            stdout=subprocess.PIPE,
+            stderr=subprocess.PIPE,
+            env=environment,
+            start_new_session=True,
         )
         while not (toy.room / "started").exists() and time.monotonic() - began < PATIENCE:
             time.sleep(0.01)
@@ -380,7 +525,12 @@ def interrupted(toy):
         os.killpg(program.pid, sign)
         program.communicate(timeout=PATIENCE)
         took = time.monotonic() - began
-        hold(f"{sign.name} in a build", (program.returncode != 0, "status 0"), (not toy.left(), f"left {toy.left()}"), (took < 20, f"{took:.0f} s"))
+        hold(
+            f"{sign.name} in a build",
+            (program.returncode != 0, "status 0"),
+            (not toy.left(), f"left {toy.left()}"),
+            (took < 20, f"{took:.0f} s"),
+        )
     (toy.room / "slow").unlink()
 
 
@@ -388,14 +538,25 @@ def no_python(toy):
     """Without python3 bytes are listed all the same, and words get their one line."""
     tools = toy.room / "tools"
     tools.mkdir()
-    for tool in "awk cat chmod dirname find grep head mkdir mktemp readlink rm sed sh sleep tail tee touch tr uname wc".split():
+    for (
+        tool
+    ) in "awk cat chmod dirname find grep head mkdir mktemp readlink rm sed sh sleep tail tee touch tr uname wc".split():
         found = shutil.which(tool)
         if found:
             (tools / tool).symlink_to(found)
     (tools / "rt").symlink_to(toy.room / "bin" / "rt")
     ran = toy.run(env={"PATH": str(tools)})
-    hold("bytes without python3", (ran.stdout.startswith(b"build"), ran.stdout), (ran.returncode == 0, ran.stderr))
-    loud("words without python3", toy.run("tell", "x.txt", env={"PATH": str(tools)}), b"python3 is missing", 2)
+    hold(
+        "bytes without python3",
+        (ran.stdout.startswith(b"build"), ran.stdout),
+        (ran.returncode == 0, ran.stderr),
+    )
+    loud(
+        "words without python3",
+        toy.run("tell", "x.txt", env={"PATH": str(tools)}),
+        b"python3 is missing",
+        2,
+    )
 
 
 def main():

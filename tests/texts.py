@@ -1,6 +1,7 @@
 #!/usr/bin/env python3
-"""The reader of the words (replay/words.py): what the grammar of docs/REPLAY.md allows is read as the tests' own reader reads it, everything
-else is refused with file, line and what was expected. Then 10,000 random texts, each of which must end in a message or a run.
+"""The reader of the words (replay/words.py): what the grammar of docs/REPLAY.md allows is read as
+the tests' own reader reads it, everything else is refused with file, line and what was expected.
+Then 10,000 random texts, each of which must end in a message or a run.
 
     texts.py [--seed S] [--texts N]
 
@@ -36,10 +37,22 @@ ALLOWED = [
     ("comments, in any letters", "# žigosano\nopen 1000 200 # 千\nabort 0#1\n", OPEN + "abort 0"),
     ("empty lines", "\n\n  \n" + OPEN + "\n\nabort 0\n\n", OPEN + "abort 0"),
     ("zeros in front", "open 0001000 200\nabort 000", OPEN + "abort 0"),
-    ("the largest numbers", "open 4294967295\nstart-from 255 to 255 number 4294967295 amount 4294967295", "bytes 01 ffffffff 01ffff00 ffffffff ffffffff"),
+    (
+        "the largest numbers",
+        "open 4294967295\nstart-from 255 to 255 number 4294967295 amount 4294967295",
+        "bytes 01 ffffffff 01ffff00 ffffffff ffffffff",
+    ),
     ("255 purses", "open" + " 0" * 255, "bytes ff " + "00" * 1020),
-    ("an event in bytes", OPEN + "bytes 04 0100 0000000000 00000000\nabort 1", OPEN + "abort 1\nabort 1"),
-    ("an event cut short at the end", OPEN + "abort 0\nbytes 04 01\n# end\n", OPEN + "abort 0\nbytes 0401"),
+    (
+        "an event in bytes",
+        OPEN + "bytes 04 0100 0000000000 00000000\nabort 1",
+        OPEN + "abort 1\nabort 1",
+    ),
+    (
+        "an event cut short at the end",
+        OPEN + "abort 0\nbytes 04 01\n# end\n",
+        OPEN + "abort 0\nbytes 0401",
+    ),
 ]
 # Texts that are refused: the line, and words of the message.
 REFUSED = [
@@ -51,8 +64,18 @@ REFUSED = [
     ("an opening of nobody", "open\n", 1, "no balance"),
     ("too many balances", "open" + " 1" * 256, 1, "1 to 255"),
     ("a balance out of range", "open 1 4294967296", 1, "0 to 4294967295"),
-    ("an amount out of range", OPEN + "start-from 0 to 1 number 1 amount 4294967296", 2, "0 to 4294967295"),
-    ("a number out of range", OPEN + "start-to 0 from 1 number 99999999999 amount 1", 2, "0 to 4294967295"),
+    (
+        "an amount out of range",
+        OPEN + "start-from 0 to 1 number 1 amount 4294967296",
+        2,
+        "0 to 4294967295",
+    ),
+    (
+        "a number out of range",
+        OPEN + "start-to 0 from 1 number 99999999999 amount 1",
+        2,
+        "0 to 4294967295",
+    ),
     ("a place out of range", OPEN + "deliver 4294967296 to 0", 2, "0 to 4294967295"),
     ("a purse out of range", OPEN + "\nabort 256", 3, "0 to 255"),
     ("a counterparty out of range", OPEN + "start-from 0 to 256 number 1 amount 1", 2, "0 to 255"),
@@ -65,7 +88,12 @@ REFUSED = [
     ("raised digits", "open 10² 200", 1, "plain digits"),
     ("a hexadecimal number", OPEN + "abort 0x1", 2, "plain digits"),
     ("a fraction", OPEN + "abort 1.0", 2, "plain digits"),
-    ("an unknown event", OPEN + "\nstop 0", 3, "start-from, start-to, deliver, abort, lose, collect, bytes"),
+    (
+        "an unknown event",
+        OPEN + "\nstop 0",
+        3,
+        "start-from, start-to, deliver, abort, lose, collect, bytes",
+    ),
     ("an event in capitals", OPEN + "Abort 0", 2, "expected one of"),
     ("another word", OPEN + "deliver 0 at 0", 2, "expected deliver PLACE to PURSE"),
     ("words left out", OPEN + "start-from 0 to 1 number 1", 2, "ends early"),
@@ -111,15 +139,28 @@ def read(data):
 def grammar():
     for name, text, want in ALLOWED:
         got, said = read(text.encode())
-        hold(f"allowed: {name}", (said is None, said), (got == plain.text_bytes(want), got and got.hex()))
+        hold(
+            f"allowed: {name}",
+            (said is None, said),
+            (got == plain.text_bytes(want), got and got.hex()),
+        )
     for name, text, line, says in REFUSED:
         got, said = read(text.encode())
-        hold(f"refused: {name}", (got is None, "it was read"), (str(said).startswith(f"{line}: "), said), (says in str(said), said), ("\n" not in str(said), said))
+        hold(
+            f"refused: {name}",
+            (got is None, "it was read"),
+            (str(said).startswith(f"{line}: "), said),
+            (says in str(said), said),
+            ("\n" not in str(said), said),
+        )
     for text in [b"\xff\xfe" + OPEN.encode("utf-16-le"), OPEN.encode() + b"# \xe9\n"]:
         got, said = read(text)
         hold("refused: not UTF-8", (got is None, "it was read"), ("UTF-8" in str(said), said))
     for path in sorted(EXAMPLES.glob("*.txt")):
-        hold(f"{path.name} as ever", (reader.read(str(path)).data == plain.text_bytes(path.read_text()), "other bytes"))
+        hold(
+            f"{path.name} as ever",
+            (reader.read(str(path)).data == plain.text_bytes(path.read_text()), "other bytes"),
+        )
 
 
 def files(room):
@@ -134,32 +175,82 @@ def files(room):
         ("missing.txt", "missing.txt cannot be read: No such file or directory"),
         ("folder.txt", "folder.txt cannot be read: Is a directory"),
         ("<b>&.txt", "<b>&.txt:2: expected abort PURSE, and the line ends early"),
-        (os.fsdecode(b"\xff\x1b.txt"), "?\\x1b.txt:2: expected abort PURSE, and the line ends early"),
+        (
+            os.fsdecode(b"\xff\x1b.txt"),
+            "?\\x1b.txt:2: expected abort PURSE, and the line ends early",
+        ),
         ("x" * 5000, "cannot be read: File name too long"),
     ]
     for command in ["list", "tell", "chart", "page"]:
         for name, says in cases:
-            ran = subprocess.run([ROOT / "prs", command, name], cwd=room, capture_output=True, stdin=subprocess.DEVNULL, timeout=60)
+            ran = subprocess.run(
+                [ROOT / "prs", command, name],
+                cwd=room,
+                capture_output=True,
+                stdin=subprocess.DEVNULL,
+                timeout=60,
+            )
             said = ran.stderr.decode("utf-8", "replace")
             hold(
                 f"{command} {name[:40]!r}",
-                (said.startswith("prs: ") and said.endswith(says + "\n") and said.count("\n") == 1, said),
+                (
+                    said.startswith("prs: ")
+                    and said.endswith(says + "\n")
+                    and said.count("\n") == 1,
+                    said,
+                ),
                 (ran.returncode in (1, 2), f"status {ran.returncode}"),
                 (not ran.stdout, "something was written"),
             )
     text = (EXAMPLES / "undisturbed.txt").read_bytes()
     ran = subprocess.run([ROOT / "prs", "list", "-"], input=text, capture_output=True, timeout=60)
-    hold("a text from standard input", (ran.stdout == (EXAMPLES / "undisturbed.out").read_bytes(), ran.stdout), (ran.returncode == 0, ran.stderr))
-    ran = subprocess.run([ROOT / "prs", "list", "-"], stdin=os.open("/", os.O_RDONLY), capture_output=True, timeout=60)
-    hold("a text from a directory", (ran.stderr == b"prs: standard input cannot be read: Is a directory\n" and ran.returncode == 1, ran.stderr))
-    ran = subprocess.run(["sh", "-c", '"$0" list - <&-', ROOT / "prs"], capture_output=True, timeout=60)
-    hold("a text from a closed input", (ran.stderr == b"prs: standard input is closed\n" and ran.returncode == 1, ran.stderr))
+    hold(
+        "a text from standard input",
+        (ran.stdout == (EXAMPLES / "undisturbed.out").read_bytes(), ran.stdout),
+        (ran.returncode == 0, ran.stderr),
+    )
+    ran = subprocess.run(
+        [ROOT / "prs", "list", "-"],
+        stdin=os.open("/", os.O_RDONLY),
+        capture_output=True,
+        timeout=60,
+    )
+    hold(
+        "a text from a directory",
+        (
+            ran.stderr == b"prs: standard input cannot be read: Is a directory\n"
+            and ran.returncode == 1,
+            ran.stderr,
+        ),
+    )
+    ran = subprocess.run(
+        ["sh", "-c", '"$0" list - <&-', ROOT / "prs"], capture_output=True, timeout=60
+    )
+    hold(
+        "a text from a closed input",
+        (ran.stderr == b"prs: standard input is closed\n" and ran.returncode == 1, ran.stderr),
+    )
 
 
 # ---- Random texts
 
 TOKENS = "open start-from start-to deliver abort lose collect bytes to from number amount # 0 1 2 3 300 1000 255 256 4294967295 4294967296 -1 ff 0x ② 00 é".split()
-ODD = [b"\r", b"\n", b"\r\n", b"\t", b"\x00", b"\xef\xbb\xbf", b"\xff", b"\xc2\x85", b"\xe2\x80\xa8", b"\x1b", b"#", b" ", b"9" * 5000, b"\xf0\x9f\x92\xb3"]
+ODD = [
+    b"\r",
+    b"\n",
+    b"\r\n",
+    b"\t",
+    b"\x00",
+    b"\xef\xbb\xbf",
+    b"\xff",
+    b"\xc2\x85",
+    b"\xe2\x80\xa8",
+    b"\x1b",
+    b"#",
+    b" ",
+    b"9" * 5000,
+    b"\xf0\x9f\x92\xb3",
+]
 FORMS = [
     "start-from {} to {} number {} amount {}",
     "start-to {} from {} number {} amount {}",
@@ -172,10 +263,25 @@ FORMS = [
 
 def right_text(rng):
     """A text of the grammar, most often."""
-    lines = ["open " + " ".join(str(rng.choice([0, 1000, 5000000, 5000001, 7])) for _ in range(rng.choice([1, 2, 2, 3, 32, 33])))]
+    lines = [
+        "open "
+        + " ".join(
+            str(rng.choice([0, 1000, 5000000, 5000001, 7]))
+            for _ in range(rng.choice([1, 2, 2, 3, 32, 33]))
+        )
+    ]
     for _ in range(rng.randrange(12)):
         form = rng.choice(FORMS)
-        lines.append(form.format(*[rng.choice([0, 0, 1, 1, 2, 3, 300, 256]) if rng.random() < 0.1 else rng.randrange(3) for _ in range(form.count("{}"))]))
+        lines.append(
+            form.format(
+                *[
+                    rng.choice([0, 0, 1, 1, 2, 3, 300, 256])
+                    if rng.random() < 0.1
+                    else rng.randrange(3)
+                    for _ in range(form.count("{}"))
+                ]
+            )
+        )
         if rng.random() < 0.1:
             lines.append("bytes " + rng.randbytes(12).hex())
     if rng.random() < 0.1:
@@ -201,7 +307,8 @@ def random_text(rng, examples):
 
 
 def fuzz(seed, count, runs):
-    """Whether every text ends in a message or a run; those that are read are read as the tests' reader reads them."""
+    """Whether every text ends in a message or a run; those that are read are read as the tests'
+    reader reads them."""
     rng = random.Random(seed)
     examples = [path.read_bytes()[:2000] for path in sorted(EXAMPLES.glob("*.txt"))]
     taken, refused, run = 0, 0, 0
@@ -212,8 +319,15 @@ def fuzz(seed, count, runs):
         except Failure as failure:
             refused += 1
             line = failure.says.split(":")[0]
-            if not line.isdigit() or "\n" in failure.says or not 1 <= int(line) <= data.count(b"\n") + 1:
-                hold(f"seed {seed}, text {place}", (False, f"a message without its line: {failure.says!r}"))
+            if (
+                not line.isdigit()
+                or "\n" in failure.says
+                or not 1 <= int(line) <= data.count(b"\n") + 1
+            ):
+                hold(
+                    f"seed {seed}, text {place}",
+                    (False, f"a message without its line: {failure.says!r}"),
+                )
             continue
         except Exception:
             hold(f"seed {seed}, text {place}", (False, f"{data[:200]!r}: {traceback.format_exc()}"))
@@ -227,8 +341,16 @@ def fuzz(seed, count, runs):
                 done = Run(text)
                 telling.told(done), chart.drawn(done), page.page([done])
             except Exception:
-                hold(f"seed {seed}, text {place}", (False, f"{data[:200]!r}: {traceback.format_exc()}"))
-    hold(f"{count} random texts", (taken > count // 10, f"only {taken} were read"), (refused > count // 10, f"only {refused} were refused"), (run == runs, f"{run} run"))
+                hold(
+                    f"seed {seed}, text {place}",
+                    (False, f"{data[:200]!r}: {traceback.format_exc()}"),
+                )
+    hold(
+        f"{count} random texts",
+        (taken > count // 10, f"only {taken} were read"),
+        (refused > count // 10, f"only {refused} were refused"),
+        (run == runs, f"{run} run"),
+    )
     return rng, examples
 
 
@@ -238,9 +360,16 @@ def fuzz_commands(rng, examples, room, count):
         path = room / f"random{place}.txt"
         path.write_bytes(random_text(rng, examples))
         command = rng.choice(["list", "tell", "chart", "page"])
-        ran = subprocess.run([ROOT / "prs", command, path], capture_output=True, stdin=subprocess.DEVNULL, timeout=60)
+        ran = subprocess.run(
+            [ROOT / "prs", command, path], capture_output=True, stdin=subprocess.DEVNULL, timeout=60
+        )
         fine = ran.returncode == 0 and ran.stdout and not ran.stderr
-        told = ran.returncode in (1, 2) and not ran.stdout and ran.stderr.startswith(b"prs: ") and ran.stderr.count(b"\n") == 1
+        told = (
+            ran.returncode in (1, 2)
+            and not ran.stdout
+            and ran.stderr.startswith(b"prs: ")
+            and ran.stderr.count(b"\n") == 1
+        )
         hold(f"{command} of random text {place}", (fine or told, ran.stderr))
 
 
