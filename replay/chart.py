@@ -305,7 +305,8 @@ class Chart(Drawing):
         height = LEADING * max(map(len, columns.values())) + 20
         self.band(height)
         if self.with_words:
-            self.text(PAD, self.y + 20, f"after event {last}", SMALL, "quiet")
+            said = f"after event {last}" if last else "no event"
+            self.text(PAD, self.y + 20, said, SMALL, "quiet")
         for lane, lines in columns.items():
             for place, line in enumerate(lines):
                 y = self.y + 20 + LEADING * place

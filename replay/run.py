@@ -9,6 +9,7 @@ from .events import BY_WORD, packed
 from .failure import Failure
 from .programs import Probe, listing
 from .state import Message
+from .transfers import transfers
 from .words import Event
 
 # What a delivered message makes the purse send, to name a message that was lost as it was sent; a
@@ -135,23 +136,23 @@ class Run:
     def state_after(self, place):
         return self.steps[place - 1].after if place else self.opened
 
+    def lines(self):
+        """The listing as the probe's answers and states have it, and the entries in the archive."""
+        yield "PRS 1"
+        if self.opening not in DONE:
+            yield f"opening {self.opening}"
+            return
+        for step in self.steps:
+            yield f"{step.place} {step.answer}"
+        for name, p in enumerate(self.end.purses):
+            yield f"purse {name} {p.balance} {p.next} {p.status} {len(p.log)}"
+        claims = sum(t.details.amount for t in transfers(self.steps, self.end) if t.claimed)
+        messages, entries = len(self.end.messages), len(self.end.archive)
+        yield f"messages {messages} archive {entries} claims {claims}"
+
     def hold(self):
         """The two programs must say the same, or nothing of the run is shown."""
-        lines = self.listing.splitlines()
-        if self.opening not in DONE:
-            want = ["PRS 1", f"opening {self.opening}"]
-            same = lines == want
-        else:
-            want = [f"{step.place} {step.answer}" for step in self.steps]
-            want += [
-                f"purse {name} {p.balance} {p.next} {p.status} {len(p.log)}"
-                for name, p in enumerate(self.end.purses)
-            ]
-            same = lines[:1] == ["PRS 1"] and lines[1:-1] == want
-            same = same and lines[-1].startswith(
-                f"messages {len(self.end.messages)} archive {len(self.end.archive)} claims "
-            )
-        if not same:
+        if self.listing.splitlines() != list(self.lines()):
             raise Failure(
                 f"{self.text.name}: the bench program and the probe do not agree;"
                 " rm -r target builds both anew"

@@ -57,14 +57,12 @@ def outcome(transfer, state):
     if transfer.claimed:
         return f"matched: {d.amount} is owed to purse {d.payer}, and stands in the claims"
     if transfer.matched:
-        left = [
-            n
-            for n, e in ((d.payer, transfer.payer_entry), (d.payee, transfer.payee_entry))
-            if e.where == CARD
-        ]
+        sides = [(d.payer, transfer.payer_entry), (d.payee, transfer.payee_entry)]
+        left = [f"the entry of purse {name}" for name, entry in sides if entry.where == CARD]
+        collected = f"{' and '.join(left)} {'is' if len(left) == 1 else 'are'} collected"
         return (
-            f"matched: {d.amount} is owed to purse {d.payer}; it stands in the claims once"
-            f" {' and '.join(f'the entry of purse {n}' for n in left)} {'is' if len(left) == 1 else 'are'} collected"
+            f"matched: {d.amount} is owed to purse {d.payer};"
+            f" it stands in the claims once {collected}"
         )
     if transfer.arrived:
         return "not matched: nothing is owed, the money arrived"
@@ -121,9 +119,10 @@ def demand(run):
         )
     for check in checks(run):
         right = right and check.right
+        less = f"{check.opening} - {check.arrived_elsewhere} - {check.matched}"
         lines.append(
-            f"purse {check.purse}: {check.opening} - {check.arrived_elsewhere} - {check.matched} + {check.arrived_here} ="
-            f" {check.should}, and it has {check.balance}: {'right' if check.right else 'WRONG'}"
+            f"purse {check.purse}: {less} + {check.arrived_here} = {check.should},"
+            f" and it has {check.balance}: {'right' if check.right else 'WRONG'}"
         )
     return lines, right
 

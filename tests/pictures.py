@@ -297,6 +297,10 @@ def disagreeing():
         ("another input's", (EXAMPLES / "undisturbed.out").read_text()),
         ("none", ""),
         ("a cut one", "PRS 1\n1 0\n"),
+        (
+            "another figure's",
+            (EXAMPLES / "pulled-out.out").read_text().replace("claims 300", "claims 3"),
+        ),
     ]:
         run.listing = lambda data: listing
         try:
