@@ -36,9 +36,9 @@ def told(asked):
 
 
 def drawn(asked):
-    text = words.read(asked.text)
-    choice = chart.chosen(text, asked.purses, asked.events)
-    write(chart.drawn(Run(text), choice))
+    run = Run(words.read(asked.text))
+    choice = chart.chosen(run, asked.purses, asked.events) if run.opening in DONE else None
+    write(chart.drawn(run, choice))
 
 
 def paged(asked):

@@ -59,9 +59,9 @@ def chosen_events(asked, most):
     return first, last
 
 
-def chosen(text, purses=None, events=None):
+def chosen(run, purses=None, events=None):
     """The purses and events asked for; all of them where nothing is."""
-    count, most = len(text.balances), len(text.events)
+    count, most = len(run.end.purses), len(run.steps)
     names = tuple(range(count)) if purses is None else chosen_purses(purses, count)
     first, last = (1, most) if events is None else chosen_events(events, most)
     return Choice(names, first, last)
@@ -70,7 +70,7 @@ def chosen(text, purses=None, events=None):
 def rows_of(run, choice):
     """The steps that have a row: with all purses chosen all of them, else those at a purse of the
     choice, and losses of messages of such a purse."""
-    everyone = len(choice.purses) == len(run.text.balances)
+    everyone = len(choice.purses) == len(run.end.purses)
     for step in run.steps[choice.first - 1 : choice.last]:
         names = {step.purse}
         if step.purse is None and step.message:
@@ -97,13 +97,27 @@ def mark(step, is_again):
     return kind.mark(step), "logged" if entries[0] != entries[1] else ""
 
 
-def purse_lines(purse):
+def purse_of(state, name):
+    """A purse of a state; None where it comes only later in the run."""
+    return state.purses[name] if name < len(state.purses) else None
+
+
+def is_busy(state, name):
+    purse = purse_of(state, name)
+    return purse is not None and purse.status != IDLE
+
+
+def purse_lines(state, name):
     """A purse at the foot."""
-    yield f"has {purse.balance}"
-    yield f"{status_name(purse.status)}, next {purse.next}"
-    yield f"{counted(len(purse.log), 'entry')} in its log"
+    purse = purse_of(state, name)
+    if purse is None:
+        return ["not there yet"]
+    lines = [f"has {purse.balance}", f"{status_name(purse.status)}, next {purse.next}"]
+    lines.append(f"{counted(len(purse.log), 'entry')} in its log")
     for d in purse.log:
-        yield f"{d.amount} from {d.payer} ({d.payer_number}) to {d.payee} ({d.payee_number})"
+        payer, payee = f"{d.payer} ({d.payer_number})", f"{d.payee} ({d.payee_number})"
+        lines.append(f"{d.amount} from {payer} to {payee}")
+    return lines
 
 
 def broken_line(transfer):
@@ -190,10 +204,12 @@ class Chart(Drawing):
             said = "opened" if place == 1 else f"before event {place}"
             self.text(PAD, self.y + 27, said, SMALL, "quiet")
         for name, lane in self.lanes.items():
-            purse = state.purses[name]
-            busy = "" if purse.status == IDLE else f", {status_name(purse.status)}"
             self.text(lane, self.y + 18, f"purse {name}", PLAIN, "strong", "middle")
-            self.text(lane, self.y + 35, f"has {purse.balance}{busy}", SMALL, "", "middle")
+            purse = purse_of(state, name)
+            said = f"has {purse.balance}" if purse else "not there yet"
+            if is_busy(state, name):
+                said += f", {status_name(purse.status)}"
+            self.text(lane, self.y + 35, said, SMALL, "", "middle")
         self.y += HEAD
         self.sections += 1
 
@@ -231,7 +247,7 @@ class Chart(Drawing):
         for name, lane in self.lanes.items():
             self.line(lane, top, lane, bottom, "life")
             for state, start, end in [(step.before, top, middle), (step.after, middle, bottom)]:
-                if state.purses[name].status != IDLE:
+                if is_busy(state, name):
                     self.line(lane, start, lane, end, "busy")
 
     def side(self, lane, other):
@@ -301,7 +317,7 @@ class Chart(Drawing):
         """Each purse at the end of what is shown, then the broken transfers, and who is owed."""
         last = self.choice.last
         state = self.run.state_after(last)
-        columns = {lane: list(purse_lines(state.purses[name])) for name, lane in self.lanes.items()}
+        columns = {lane: purse_lines(state, name) for name, lane in self.lanes.items()}
         height = LEADING * max(map(len, columns.values())) + 20
         self.band(height)
         if self.with_words:
@@ -324,20 +340,20 @@ def title(run, choice):
     said = run.text.name.rsplit("/", 1)[-1]
     if (choice.first, choice.last) != (1, len(run.steps)):
         said += f", events {choice.first} to {choice.last} of {len(run.steps)}"
-    if len(choice.purses) != len(run.text.balances):
-        said += f", purses {', '.join(map(str, choice.purses))} of {len(run.text.balances)}"
+    if len(choice.purses) != len(run.end.purses):
+        said += f", purses {', '.join(map(str, choice.purses))} of {len(run.end.purses)}"
     return said
 
 
 def drawn(run, choice=None, with_words=True):
     """The whole picture; without words for a page that tells the events beside it."""
-    choice = choice or chosen(run.text)
     if run.opening not in DONE:
         refused = Drawing(560)
         said = f"opening refused, {run.opening}: {meaning(run.opening)}"
         refused.text(PAD, 2 * PAD, said, PLAIN, "bad")
         refused.y = 3 * PAD
         return refused.svg(run.text.name.rsplit("/", 1)[-1])
+    choice = choice or chosen(run)
     chart = Chart(run, choice, with_words)
     if with_words:
         chart.title(title(run, choice))

@@ -127,7 +127,7 @@ def checks(run):
     for name, purse in enumerate(last.purses):
         yield Check(
             name,
-            run.opened.purses[name].balance,
+            run.opened.purses[name].balance if name < len(run.opened.purses) else 0,
             sum(d.amount for d in arrived if d.payer == name),
             sum(t.details.amount for t in found if t.matched and t.details.payer == name),
             sum(d.amount for d in arrived if d.payee == name),

@@ -31,7 +31,7 @@ from money import Ledger, matched
 from shell import one_line, slow_reader
 
 sys.path.insert(0, str(ROOT))
-from replay import chart, run, telling, words  # noqa: E402
+from replay import chart, events, run, telling, words  # noqa: E402
 from replay.failure import Failure  # noqa: E402
 
 SVG = "{http://www.w3.org/2000/svg}"
@@ -470,6 +470,29 @@ def pictures():
         )
 
 
+def later_kind():
+    """A kind of event more is one entry of the table: read, run, told and drawn with no other change."""
+    text = "open 5 5\nload 1 amount 7\nbytes 08 01 00 00 00000000 00000007"
+    kind = events.Kind(8, "load PURSE amount AMOUNT", lambda step: "", lambda step: [""])
+    try:
+        run_of(text)
+        hold("a later kind is not there yet", (False, "it was read"))
+    except Failure as failure:
+        hold("a later kind is not there yet", ("is no event" in failure.says, failure.says))
+    events.KINDS.append(kind)
+    events.BY_NUMBER[8] = events.BY_WORD["load"] = kind
+    try:
+        done = run_of(text)
+        same = done.text.events[0].data == done.text.events[1].data
+        told = telling.told(done)
+        boxes = [words for words, _ in texts_of(chart.drawn(done))]
+    finally:
+        events.KINDS.pop()
+        del events.BY_NUMBER[8], events.BY_WORD["load"]
+    hold("a later kind: its words", (same, "other bytes"), ("load 1 amount 7" in told, told))
+    hold("a later kind: its box", (boxes.count("load refused") == 2, boxes))
+
+
 # ---- Pages
 
 
@@ -671,6 +694,7 @@ def main():
     against_model(asked.seed, asked.lists)
     disagreeing()
     pictures()
+    later_kind()
     with tempfile.TemporaryDirectory() as room:
         browsed(Path(room), pages(Path(room)))
     outputs()
