@@ -365,6 +365,7 @@ class Toy:
         (room / "bin").mkdir()
         (room / "bin" / "rt").write_text(BUILDS.format(room=room))
         (room / "bin" / "rt").chmod(0o755)
+        (room / "KIT-ID").write_text("a kit\n")
         (room / "tmp").mkdir()
         room.chmod(0o755)
         self.path = f"{room / 'bin'}:{os.environ['PATH']}"
@@ -430,6 +431,7 @@ def stale(room):
             lambda: later(toy.it / "crates/base/must-fail/wrong.edit"),
             False,
         ),
+        ("the kit", lambda: later(toy.room / "KIT-ID"), True),
         ("a program that went", lambda: (toy.it / "target/bin/prs").unlink(), True),
     ]
     for what, change, again in changes:
