@@ -28,6 +28,11 @@ run money tests/money.py
 run vectors tests/vectors.py
 run report tests/report.py
 run examples tests/examples.sh "$prs"
+if [ $# -eq 0 ]; then
+    run shell tests/shell.py
+    run texts tests/texts.py
+    run pictures tests/pictures.py
+fi
 run rig tests/rig.py --short --prs "$prs" --probe "$probe"
 
 [ -z "$failed" ] || { echo "failed:$failed"; exit 1; }

@@ -1,6 +1,6 @@
 #!/bin/sh
 # Runs every example and every test vector through the bench program and compares the listing with
-# the one kept beside it, byte by byte.
+# the one kept beside it, byte by byte; every example through ./prs list too.
 #
 #     tests/examples.sh [PROGRAM]      the program is target/bin/prs without an argument
 #
@@ -13,25 +13,28 @@ trap 'rm -rf "$made"' EXIT
 passed=0
 failed=0
 
-# compare NAME INPUT LISTING
+# compare NAME INPUT LISTING COMMAND..
 compare() {
-    "$program" <"$2" >"$made/listing"
+    name=$1 input=$2 want=$3
+    shift 3
+    "$@" <"$input" >"$made/listing"
     status=$?
-    if [ "$status" -eq 0 ] && cmp -s "$3" "$made/listing"; then
+    if [ "$status" -eq 0 ] && cmp -s "$want" "$made/listing"; then
         passed=$((passed + 1))
         return
     fi
     failed=$((failed + 1))
-    echo "FAILED $1 (exit status $status); expected on the left, got on the right:"
-    diff "$3" "$made/listing" | head -4
+    echo "FAILED $name (exit status $status); expected on the left, got on the right:"
+    diff "$want" "$made/listing" | head -4
 }
 
 for text in examples/*.txt; do
-    examples/bytes "$text" >"$made/input"
-    compare "$text" "$made/input" "${text%.txt}.out"
+    tests/words.py "$text" >"$made/input"
+    compare "$text" "$made/input" "${text%.txt}.out" "$program"
+    [ $# -gt 0 ] || compare "./prs list $text" /dev/null "${text%.txt}.out" ./prs list "$text"
 done
 for input in tests/vectors/*.in; do
-    compare "$input" "$input" "${input%.in}.out"
+    compare "$input" "$input" "${input%.in}.out" "$program"
 done
 
 echo "$passed passed, $failed failed"

@@ -1,7 +1,7 @@
 #!/usr/bin/env python3
 """The test vectors of the bench program: inputs named here, their listings beside them.
 
-Each vector is an input in the words of examples/README.md and the answers that document 01 gives
+Each vector is an input in the words of docs/REPLAY.md and the answers that document 01 gives
 it, worked out by hand; `..` at the front stands for answers not written out. The vectors and the
 examples are kept as files: tests/vectors/NAME.in and NAME.out, examples/NAME.txt and NAME.out. The
 program of crates/vectors runs the same inputs in the gate: it has copies of its own (data/, args,

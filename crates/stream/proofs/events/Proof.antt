@@ -5,10 +5,10 @@ use Rattle.stream.proofs.events.Statement.{statement}
 use Rattle.stream.proofs.events.Tie as tie
 
 abbrev Inv-loop : tie.InvT-loop
-Inv-loop from to held₀ next₀ more₀ turns₀ held next more turns = Unit {0}
+Inv-loop from to held₀ next₀ more₀ is-failed₀ turns₀ held next more is-failed turns = Unit {0}
 
 abbrev μ-loop : tie.MeasureT-loop
-μ-loop from to held₀ next₀ more₀ turns₀ held next more turns = turns
+μ-loop from to held₀ next₀ more₀ is-failed₀ turns₀ held next more is-failed turns = turns
 
 loop-holds : tie.Need-loop-holds Inv-loop μ-loop
 loop-holds c = tt
@@ -26,10 +26,10 @@ loop-again : tie.Need-loop-again Inv-loop μ-loop
 loop-again c = tt
 
 returns : tie.Need-returns Inv-loop μ-loop
-returns c = tt
+returns c = search needs
 
 returns-2 : tie.Need-returns-2 Inv-loop μ-loop
-returns-2 c = tt
+returns-2 c = search needs
 
 pub events-spec : {M : Type 1} → statement M
 events-spec =

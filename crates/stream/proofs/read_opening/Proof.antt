@@ -4,17 +4,21 @@ use native.Mathlib.Omega.{arith}
 use mathlib.Core.Path.{sym}
 use lib.Seq.{length-take-le}
 use borrow.Author.Needs.{needs}
+use native.Mathlib.Omega.{arith}
+use mathlib.Core.Path.{sym}
+use lib.Seq.{length-take-le}
+use borrow.Author.Needs.{needs}
 use Rattle.stream.proofs.read_opening.Statement.{statement}
 use Rattle.stream.proofs.read_opening.Tie as tie
 
-slice-relend-prefix-read-full : tie.Need-slice-relend-prefix-read-full
-slice-relend-prefix-read-full c = search needs
+slice-relend-prefix-fill : tie.Need-slice-relend-prefix-fill
+slice-relend-prefix-fill c = search needs
 
-slice-aggregate-read-full : tie.Need-slice-aggregate-read-full
-slice-aggregate-read-full c = sym (length-take-le 1 (c .before .before .args .bytes .now) (omega (arith, c .before .before .pre)))
+slice-aggregate-fill : tie.Need-slice-aggregate-fill
+slice-aggregate-fill c = sym (length-take-le 1 (c .before .before .args .bytes .now) (omega (arith, c .before .before .pre)))
 
-read-full-requires : tie.Need-read-full-requires
-read-full-requires c κs = search needs
+fill-requires : tie.Need-fill-requires
+fill-requires c κs = search needs
 
 same-length : tie.Need-same-length
 same-length c = search needs
@@ -31,20 +35,20 @@ balance-bytes-requires c κs = search needs
 add-end : tie.Need-add-end
 add-end c = search needs
 
-sub-read-full : tie.Need-sub-read-full
-sub-read-full c = search needs
+sub-fill : tie.Need-sub-fill
+sub-fill c = search needs
 
-part-read-full-start : tie.Need-part-read-full-start
-part-read-full-start c = search needs
+part-fill-start : tie.Need-part-fill-start
+part-fill-start c = search needs
 
-part-read-full-end : tie.Need-part-read-full-end
-part-read-full-end c = search needs
+part-fill-end : tie.Need-part-fill-end
+part-fill-end c = search needs
 
-read-full-requires-2 : tie.Need-read-full-requires-2
-read-full-requires-2 c κs = search needs
+fill-requires-2 : tie.Need-fill-requires-2
+fill-requires-2 c κs = search needs
 
-add-result : tie.Need-add-result
-add-result c = search needs
+add-t9 : tie.Need-add-t9
+add-t9 c = search needs
 
 same-length-2 : tie.Need-same-length-2
 same-length-2 c = search needs
@@ -56,18 +60,18 @@ pub read-opening-spec : {M : Type 1} → statement M
 read-opening-spec =
     tie.close
     (tie.spec
-    slice-relend-prefix-read-full
-    slice-aggregate-read-full
-    read-full-requires
+    slice-relend-prefix-fill
+    slice-aggregate-fill
+    fill-requires
     same-length
     returns
     slice-read-balance-bytes
     balance-bytes-requires
     add-end
-    sub-read-full
-    part-read-full-start
-    part-read-full-end
-    read-full-requires-2
-    add-result
+    sub-fill
+    part-fill-start
+    part-fill-end
+    fill-requires-2
+    add-t9
     same-length-2
     returns-2)

@@ -1,11 +1,8 @@
 #!/usr/bin/env python3
-"""Turns a transfer written in words (grammar: README.md beside this file) into the bytes that the
-bench program takes.
+"""The words of the examples and of the test vectors as bytes, for the tests: a reader of their own, which shares nothing with the product's
+(replay/words.py) and is looser, since vectors also say what words cannot: openings and events cut anywhere (`bytes HEX ..`).
 
-    examples/bytes examples/undisturbed.txt | target/bin/prs
-
-Reads the named file, or standard input without one. A line that the grammar does not allow is
-named on standard error, with exit status 2.
+    tests/words.py TEXT     writes the bytes of a text to standard output
 """
 
 import re
@@ -49,7 +46,7 @@ def line_bytes(line):
 def text_bytes(text):
     """The bytes of a whole text."""
     made = []
-    for place, line in enumerate(text.splitlines(), 1):
+    for place, line in enumerate(text.split("\n"), 1):
         try:
             made.append(line_bytes(line.split("#")[0]))
         except (ValueError, struct.error) as wrong:
@@ -58,15 +55,8 @@ def text_bytes(text):
 
 
 def main():
-    if len(sys.argv) > 2:
-        sys.exit("use: bytes [TEXT]")
-    with open(sys.argv[1] if len(sys.argv) == 2 else 0) as source:
-        text = source.read()
-    try:
-        sys.stdout.buffer.write(text_bytes(text))
-    except ValueError as wrong:
-        print(wrong, file=sys.stderr)
-        sys.exit(2)
+    with open(sys.argv[1]) as source:
+        sys.stdout.buffer.write(text_bytes(source.read()))
 
 
 if __name__ == "__main__":

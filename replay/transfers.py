@@ -1,0 +1,135 @@
+"""What became of each payment of a run: paid, arrived, logged, matched, owed; and the check of
+demand 3. Document 01's words:
+
+A payment is paid at the delivery of its request that answers 0 or 1, and arrives at the delivery
+of its value that answers 0 or 1. Matched: the payer and the payee have each logged the same
+details, in the purse or in the archive. Claims, the figure printed as owed to payers, is the sum
+over pairs with both entries in the archive. Demand 3: once every purse is stopped, each has its
+opening balance, less its payments that arrived, less what its matched log pairs record, plus
+what arrived in it.
+"""
+
+from typing import NamedTuple
+
+from .answers import REQUEST, VALUE
+from .state import Details
+
+CARD, ARCHIVE = "on its card", "in the archive"
+
+
+class Place(NamedTuple):
+    """Where an entry stands."""
+
+    where: str
+    place: int
+
+    def __str__(self):
+        return f"{self.where} (place {self.place})"
+
+    @property
+    def short(self):
+        return f"{'card' if self.where == CARD else 'archive'} {self.place}"
+
+
+class Transfer(NamedTuple):
+    details: Details
+    payer_entry: object  # a Place, or None where the payer logged nothing
+    payee_entry: object
+    paid: bool
+    arrived: bool
+
+    @property
+    def matched(self):
+        return self.payer_entry is not None and self.payee_entry is not None
+
+    @property
+    def claimed(self):
+        """Whether the figure printed as claims has it."""
+        return self.matched and {self.payer_entry.where, self.payee_entry.where} == {ARCHIVE}
+
+    @property
+    def broken(self):
+        return self.payer_entry is not None or self.payee_entry is not None
+
+    @property
+    def on_no_card(self):
+        """What was paid and has not arrived."""
+        return self.details.amount if self.paid and not self.arrived else 0
+
+
+def taken(steps, kind):
+    """The payments whose message of that kind was taken."""
+    return {
+        step.details
+        for step in steps
+        if step.done and step.message and step.purse is not None and step.message.kind == kind
+    }
+
+
+def entries(state):
+    """Each entry of a state: who logged it, its details, and where it stands."""
+    for name, purse in enumerate(state.purses):
+        for place, details in enumerate(purse.log):
+            yield name, details, Place(CARD, place)
+    for place, entry in enumerate(state.archive):
+        yield entry.logger, entry.details, Place(ARCHIVE, place)
+
+
+def transfers(steps, state):
+    """Every payment that was paid or logged, in the order of its numbers, as it stands after
+    those steps."""
+    paid, arrived = taken(steps, REQUEST), taken(steps, VALUE)
+    logged = {}
+    for name, details, place in entries(state):
+        logged[(name, details)] = place
+    every = paid | arrived | {details for _, details in logged}
+    return [
+        Transfer(d, logged.get((d.payer, d)), logged.get((d.payee, d)), d in paid, d in arrived)
+        for d in sorted(every, key=lambda d: (d.payer_number, d))
+    ]
+
+
+def owed(found):
+    """What is owed to each payer: its matched pairs."""
+    sums = {}
+    for transfer in found:
+        if transfer.matched:
+            payer = transfer.details.payer
+            sums[payer] = sums.get(payer, 0) + transfer.details.amount
+    return dict(sorted(sums.items()))
+
+
+class Check(NamedTuple):
+    """Demand 3 for one purse, with its numbers."""
+
+    purse: int
+    opening: int
+    arrived_elsewhere: int
+    matched: int
+    arrived_here: int
+    balance: int
+
+    @property
+    def should(self):
+        return self.opening - self.arrived_elsewhere - self.matched + self.arrived_here
+
+    @property
+    def right(self):
+        return self.should == self.balance
+
+
+def checks(run):
+    """Demand 3 for each purse, once those still busy are stopped."""
+    steps = [*run.steps, *run.stops]
+    last = steps[-1].after if steps else run.opened
+    found = transfers(steps, last)
+    arrived = [t.details for t in found if t.arrived]
+    for name, purse in enumerate(last.purses):
+        yield Check(
+            name,
+            run.opened.purses[name].balance if name < len(run.opened.purses) else 0,
+            sum(d.amount for d in arrived if d.payer == name),
+            sum(t.details.amount for t in found if t.matched and t.details.payer == name),
+            sum(d.amount for d in arrived if d.payee == name),
+            purse.balance,
+        )
