@@ -31,25 +31,21 @@ extern "C" {
 
 /* ---- Numbers ---- */
 
-enum {
-    PRS_RECORDS = 32,      /* records of a table */
-    PRS_PLACES = 256,      /* places for messages, and for archive entries */
-    PRS_LOG = 8,           /* places of a purse's log */
-    PRS_CEILING = 5000000, /* the largest balance and the largest amount */
-    PRS_EVENT = 12,        /* bytes of an event */
-    PRS_IMAGE_MAX = 12042  /* bytes of the largest image */
-};
+#define PRS_RECORDS 32       /* records of a table */
+#define PRS_PLACES 256       /* places for messages, and for archive entries */
+#define PRS_LOG 8            /* places of a purse's log */
+#define PRS_CEILING 5000000  /* the largest balance and the largest amount */
+#define PRS_EVENT_BYTES 12   /* an event */
+#define PRS_IMAGE_MAX 12042  /* bytes of the largest image */
 
-/* The stack of each entry, in bytes, as benchmarks/run measures it, rounded up. */
-enum {
-    PRS_STACK_CARD = 2048,
-    PRS_STACK_OPENING = 65536,
-    PRS_STACK_EVENT = 65536,
-    PRS_STACK_RUN = 131072,
-    PRS_STACK_CLAIMS = 65536,
-    PRS_STACK_WRITE = 65536,
-    PRS_STACK_READ = 131072
-};
+/* The stack of each entry in bytes, measured by benchmarks/run and rounded up. */
+#define PRS_STACK_CARD 2048
+#define PRS_STACK_OPENING 65536
+#define PRS_STACK_EVENT 65536
+#define PRS_STACK_RUN 131072
+#define PRS_STACK_CLAIMS 65536
+#define PRS_STACK_WRITE 65536
+#define PRS_STACK_READ 131072
 
 /* What a call answers. */
 enum prs_answer {

@@ -94,7 +94,7 @@ def laid(kind):
 
 whole = HEADER.read_text()
 header = re.sub(r"/\*.*?\*/", "", whole, flags=re.S)
-constants = {name: int(number) for name, number in re.findall(r"(PRS_\w+) = (\d+)", header)}
+constants = {name: int(number) for name, number in re.findall(r"#define (PRS_\w+) (\d+)", header)}
 c_structs = {}
 for fields, name in re.findall(r"typedef struct \{([^}]*)\} (\w+);", header):
     c_structs[name] = []
