@@ -90,6 +90,11 @@ both() {
     fi
 }
 
+# README's program, as a reader would take it
+sed -n '/^```c$/,/^```$/p' README.md | sed '/^```/d' >"$out/readme.c"
+hold "README's program does not build" "$c" -std=c11 -Wall -Wextra -Wpedantic -Werror $static $flags "$out/readme.c" $libs -o "$out/readme"
+hold "README's program" $run "$out/readme"
+
 both "as C11" "$c" -std=c11
 if command -v "$cpp" >/dev/null 2>&1; then
     both "as C++17" "$cpp" -std=c++17 -x c++
