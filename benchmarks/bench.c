@@ -199,33 +199,33 @@ static void our_opening(World *w) {
 }
 
 /* Plain C and the C with keys have the same functions, but for the names. */
-#define C_SIDES(side, prefix)                                                                       \
-    static void side##_event(World *w) {                                                            \
-        w->answer = prefix##bench_event(w->held.table, PURSES, &w->held.desk, event, EVENT_BYTES);  \
-    }                                                                                               \
-    static void side##_run(World *w) {                                                              \
-        w->length = prefix##bench_run(w->held.table, PURSES, &w->held.desk, run_input,              \
-                                      run_events * EVENT_BYTES, w->answers);                        \
-    }                                                                                               \
-    static void side##_write(World *w) {                                                            \
-        w->answer = prefix##image_write(w->held.table, PURSES, &w->held.desk, w->bytes,             \
-                                        sizeof w->bytes, &w->length);                               \
-    }                                                                                               \
-    static void side##_read(World *w) {                                                             \
-        w->answer =                                                                                 \
-            prefix##image_read(w->held.table, PURSES, &w->held.desk, image, image_length);          \
-    }                                                                                               \
-    static void side##_claims(World *w) {                                                           \
-        w->answer = prefix##bench_claims(w->held.table, PURSES, &w->held.desk, &w->figure);         \
-    }                                                                                               \
-    static void side##_card(World *w) {                                                             \
-        static const CardEvent told = {START_FROM, {1}, {9}, {300}, {0, {{0}, {0}, {0}, {0}, {0}}}};  \
-        Name own = {0};                                                                             \
-        for (unsigned i = 0; i < card_steps; i++)                                                   \
-            w->answer = prefix##card_step(&w->cards[i], own, &told, &w->handed);                    \
-    }                                                                                               \
-    static void side##_opening(World *w) {                                                          \
-        w->answer = prefix##bench_open(w->held.table, PURSES, &w->held.desk, balances, PURSES);     \
+#define C_SIDES(side, prefix)                                                                          \
+    static void side##_event(World *w) {                                                               \
+        w->answer = prefix##bench_event(w->held.table, PURSES, &w->held.desk, event, EVENT_BYTES);     \
+    }                                                                                                  \
+    static void side##_run(World *w) {                                                                 \
+        w->length = prefix##bench_run(w->held.table, PURSES, &w->held.desk, run_input,                 \
+                                      run_events * EVENT_BYTES, w->answers);                           \
+    }                                                                                                  \
+    static void side##_write(World *w) {                                                               \
+        w->answer = prefix##image_write(w->held.table, PURSES, &w->held.desk, w->bytes,                \
+                                        sizeof w->bytes, &w->length);                                  \
+    }                                                                                                  \
+    static void side##_read(World *w) {                                                                \
+        w->answer =                                                                                    \
+            prefix##image_read(w->held.table, PURSES, &w->held.desk, image, image_length);             \
+    }                                                                                                  \
+    static void side##_claims(World *w) {                                                              \
+        w->answer = prefix##bench_claims(w->held.table, PURSES, &w->held.desk, &w->figure);            \
+    }                                                                                                  \
+    static void side##_card(World *w) {                                                                \
+        static const CardEvent told = {START_FROM, {1}, {9}, {300}, {0, {{0}, {0}, {0}, {0}, {0}}}};   \
+        Name own = {0};                                                                                \
+        for (unsigned i = 0; i < card_steps; i++)                                                      \
+            w->answer = prefix##card_step(&w->cards[i], own, &told, &w->handed);                       \
+    }                                                                                                  \
+    static void side##_opening(World *w) {                                                             \
+        w->answer = prefix##bench_open(w->held.table, PURSES, &w->held.desk, balances, PURSES);        \
     }
 C_SIDES(plain, )
 C_SIDES(keyed, keyed_)
@@ -267,7 +267,7 @@ static void set_size(const Size *size) {
     }
 }
 
-/* ---- Both answer the same ---- */
+/* ---- All answer the same ---- */
 
 /* Field by field, since padding may differ. */
 static bool alike_purse(const Purse *a, const Purse *b) {
