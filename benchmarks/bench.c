@@ -159,6 +159,9 @@ static uint8_t image[PRS_IMAGE_MAX];
 static size_t image_length;
 static unsigned run_events;
 static unsigned card_steps;
+static Name own;       /* the card's name, */
+static CardEvent told; /* what it is told, */
+static prs_order order; /* and the same for ours */
 static const Amount balances[PURSES] = {{1000}, {200}, {CEILING}};
 
 #define OUR_TABLE(w) ((prs_purse *)(w)->held.table)
@@ -185,11 +188,10 @@ static void our_claims(World *w) {
     w->figure = owed.claims;
 }
 static void our_card(World *w) {
-    static const prs_order order = {PRS_START_FROM, {1}, {9}, {300}, {0, {{0}, {0}, {0}, {0}, {0}}}};
-    prs_name own = {0};
+    prs_name name = {own.value};
     prs_handed handed;
     for (unsigned i = 0; i < card_steps; i++)
-        handed = prs_card((prs_purse *)&w->cards[i], own, order);
+        handed = prs_card((prs_purse *)&w->cards[i], name, order);
     w->answer = handed.answer;
     memcpy(&w->handed.sent, &handed.message, sizeof handed.message);
     memcpy(&w->handed.collected, &handed.entry, sizeof handed.entry);
@@ -219,8 +221,6 @@ static void our_opening(World *w) {
         w->answer = prefix##bench_claims(w->held.table, PURSES, &w->held.desk, &w->figure);            \
     }                                                                                                  \
     static void side##_card(World *w) {                                                                \
-        static const CardEvent told = {START_FROM, {1}, {9}, {300}, {0, {{0}, {0}, {0}, {0}, {0}}}};   \
-        Name own = {0};                                                                                \
         for (unsigned i = 0; i < card_steps; i++)                                                      \
             w->answer = prefix##card_step(&w->cards[i], own, &told, &w->handed);                       \
     }                                                                                                  \
@@ -250,11 +250,23 @@ enum { CHECKED, RUN, IMAGE_WRITE, IMAGE_READ, CLAIMS, CARD_STEP, OPENING, CALL_C
 
 static World worlds[SIDE_COUNT];
 
+static void tell(uint8_t name, EventKind kind, uint8_t other, uint32_t seq, uint32_t amount, Message message) {
+    own.value = name;
+    told = (CardEvent){kind, {other}, {seq}, {amount}, message};
+    order = (prs_order){(uint8_t)kind, {other}, {seq}, {amount}, {0}};
+    memcpy(&order.message, &message, sizeof message);
+}
+
+/* What the figures tell the card. */
+static void tell_start(void) {
+    tell(0, START_FROM, 1, 9, 300, (Message){0});
+}
+
 static void ready(World *w) {
     memset(w, 0, sizeof *w);
     memcpy(&w->held, &before, sizeof before);
     for (unsigned i = 0; i < CARDS; i++)
-        w->cards[i] = before.table[0];
+        w->cards[i] = before.table[own.value % PURSES];
 }
 
 static void set_size(const Size *size) {
@@ -355,6 +367,19 @@ static void draw_event(uint8_t *e) {
         e[draw(EVENT_BYTES)] = (uint8_t)draw(256);
 }
 
+/* An order of every kind to a card, its own name now and then too high or another's; the message is one that stands, or a damaged one. */
+static void draw_order(void) {
+    static const EventKind kinds[] = {START_FROM, START_TO, DELIVER, ABORT, COLLECT};
+    uint8_t name = (uint8_t)draw(draw(20) == 0 ? 40 : 4);
+    Message message = before.desk.ether.places[draw(8)];
+    if (draw(4) == 0) {
+        message.kind = (uint8_t)draw(5);
+        message.details = before.table[name % PURSES].details;
+    }
+    tell(name, kinds[draw(5)], (uint8_t)draw(draw(20) == 0 ? 40 : 4), NEXT + draw(4),
+         draw(20) == 0 ? draw(6000000) : 1 + draw(3), message);
+}
+
 static void check(void) {
     uint8_t e[EVENT_BYTES];
     for (unsigned s = 0; s < SIZE_COUNT; s++) {
@@ -370,6 +395,8 @@ static void check(void) {
             draw_event(e);
             compare(&CALLS[CHECKED], SIZES[s].name);
             memcpy(&before, &worlds[PLAIN].held, sizeof before);
+            draw_order();
+            compare(&CALLS[CARD_STEP], SIZES[s].name);
             if (i % 100 == 0) {
                 image_write(before.table, PURSES, &before.desk, image, sizeof image,
                             &image_length);
@@ -387,6 +414,7 @@ static void check(void) {
             uint8_t was = image[at];
             image[at] ^= (uint8_t)(1 + draw(255));
             draw_event(e);
+            draw_order();
             for (unsigned k = 0; k < CALL_COUNT; k++)
                 compare(&CALLS[k], "a damaged state");
             image[at] = was;
@@ -497,7 +525,7 @@ static void time_all(void) {
 static ucontext_t outside, inside;
 static Side *deep;
 static World *deep_world;
-enum { STACK = 8 << 20, PAINT = 0xA5 };
+enum { STACK = 1 << 20, PAINT = 0xA5 };
 
 static void run_deep(void) {
     deep(deep_world);
@@ -553,6 +581,7 @@ int main(int argc, char **argv) {
     fill_run();
     run_events = RUN_EVENTS;
     card_steps = CARDS;
+    tell_start();
     if (strcmp(what, "count") == 0)
         count();
     else if (strcmp(what, "time") == 0)
