@@ -1,13 +1,15 @@
-/* What a call costs: our functions and the plain C of plain.c, in one process, on the same states.
+/* What a call costs: the entries of prs.h, the plain C of plain.c and the C with keys of keyed.c, in one process, on the same states.
 
-   bench check        both answer the same and leave the same bytes
+   bench check        all three answer the same and leave the same bytes
    bench count        each call once on each side, for callgrind: the counts are dumped at each
    bench time         interleaved timing, the least of many runs
-   bench stack        how deep each call's stack goes
+   bench stack        how deep each call's stack goes; exit status 1 where it is above what prs.h says
 
-   The records of both sides are laid out alike, so a state is made once and handed to both. */
+   The records of all sides are laid out alike, so a state is made once and handed to each. */
 
 #define _GNU_SOURCE
+#include "../include/prs.h"
+#include "keyed.h"
 #include "plain.h"
 
 #include <stdio.h>
@@ -15,41 +17,22 @@
 #include <string.h>
 #include <time.h>
 #include <ucontext.h>
+#if __has_include(<valgrind/callgrind.h>)
 #include <valgrind/callgrind.h>
-
-/* ---- Our functions: the crate timed, by value; with LENT, the entries over a lent table and a lent record
-   (crates slot, lending and storing) in place of all but the run. plain.c's names are given a prefix by
-   benchmarks/run, since the entries have the same ones. ---- */
+#else
+#define CALLGRIND_ZERO_STATS
+#define CALLGRIND_DUMP_STATS_AT(name) (void)(name)
+#endif
 
 typedef struct { Purse table[PURSES]; Desk desk; } Held;
-typedef struct { uint8_t answer; Held held; } Answered;
-typedef struct { size_t taken; Held held; } Ran;
-typedef struct { uint8_t answer; uint32_t claims; } Figure;
-typedef struct { uint8_t answer; size_t length; } Written;
-typedef struct { uint8_t answer; Purse purse; Message message; Details entry; } CardAnswer;
 
-CardAnswer timed_start_from(Purse purse, Name own, Name other, Seq seq, Amount amount);
-Answered timed_event(Held held, const uint8_t *event, size_t length);
-Ran timed_run(Held held, const uint8_t *input, size_t length, uint8_t *answers, size_t places);
-Figure timed_claims(Held held);
-Written timed_write(Held held, uint8_t *out, size_t length);
-Answered timed_read(Held held, const uint8_t *bytes, size_t length);
-
-#ifdef LENT
-typedef struct { uint8_t answer; Desk desk; } Reply;
-typedef struct { uint8_t kind; Name other; Seq seq; Amount amount; Message message; } Order;
-typedef struct { uint8_t answer; Message message; Details entry; } Handed;
-
-Handed lent_card(Purse *purse, Name own, Order order) __asm__("card_event");
-Reply lent_event(Purse *table, size_t records, Desk desk, const uint8_t *event, size_t length) __asm__("bench_event");
-Figure lent_claims(const Purse *table, size_t records, Desk desk) __asm__("bench_claims");
-Written lent_write(const Purse *table, size_t records, Desk desk, uint8_t *out, size_t length) __asm__("image_write");
-Reply lent_read(Purse *table, size_t records, Desk desk, const uint8_t *bytes, size_t length) __asm__("image_read");
-#endif
+_Static_assert(sizeof(Purse) == sizeof(prs_purse) && sizeof(Desk) == sizeof(prs_desk) &&
+                   sizeof(Message) == sizeof(prs_message) && sizeof(Details) == sizeof(prs_details),
+               "one state for all sides");
 
 /* ---- States: 32 purses, so many messages and archive entries, log entries up to a count ---- */
 
-enum { IMAGE_MOST = 12042, NEXT = 100000 };
+enum { NEXT = 100000 };
 
 static Details details(unsigned payer, unsigned payerseq, unsigned payee, unsigned payeeseq,
                        unsigned amount) {
@@ -91,11 +74,38 @@ static void fill(Held *held, unsigned messages, unsigned entries, unsigned logge
     held->desk.archive.count = (uint16_t)entries;
 }
 
-typedef struct { const char *name; unsigned messages, entries, logged; } Size;
+/* Every message, and every entry, with the key of the first: the payee's number is what the key has as it stands, so it makes up for the
+   rest. The next numbers go up, so that all such numbers are used ones. At worst the payer's numbers, compared first, are all equal too. */
+static void collide(Held *held, bool worst) {
+    Ether *ether = &held->desk.ether;
+    Archive *archive = &held->desk.archive;
+    uint32_t message = keyed_key(ether->places[0].kind, &ether->places[0].details);
+    uint32_t entry = keyed_key(archive->places[0].by.value, &archive->places[0].details);
+    for (unsigned i = 0; i < PURSES; i++)
+        held->table[i].next.value = UINT32_MAX - 1;
+    for (unsigned i = 1; i < PLACES; i++) {
+        Message *m = &ether->places[i];
+        Entry *e = &archive->places[i];
+        if (worst) {
+            m->details.payerseq = ether->places[0].details.payerseq;
+            e->details.payerseq = archive->places[0].details.payerseq;
+        }
+        m->details.payeeseq.value += message - keyed_key(m->kind, &m->details);
+        e->details.payeeseq.value += entry - keyed_key(e->by.value, &e->details);
+    }
+}
+
+typedef enum { APART, SAME_KEY, SAME_KEY_AND_PAYERSEQ } Keys;
+typedef struct { const char *name; unsigned messages, entries, logged; Keys keys; } Size;
 static const Size SIZES[] = {
-    {"empty", 0, 0, 0}, {"middling", 128, 128, 4}, {"full", PLACES, PLACES, LOG_PLACES},
-    {"messages_only", PLACES, 0, 0}, {"archive_only", 0, PLACES, 0}};
-enum { SIZE_COUNT = sizeof SIZES / sizeof *SIZES, EMPTY = 0, FULL = 2 };
+    {"empty", 0, 0, 0, APART},
+    {"middling", 128, 128, 4, APART},
+    {"full", PLACES, PLACES, LOG_PLACES, APART},
+    {"messages", PLACES, 0, 0, APART},
+    {"archive", 0, PLACES, 0, APART},
+    {"colliding", PLACES, PLACES, LOG_PLACES, SAME_KEY},
+    {"colliding_worst", PLACES, PLACES, LOG_PLACES, SAME_KEY_AND_PAYERSEQ}};
+enum { EMPTY, MIDDLING, FULL, MESSAGES, ARCHIVE, COLLIDING, COLLIDING_WORST, SIZE_COUNT };
 
 /* One event of each kind; what a full bench answers stands beside. */
 static const uint8_t EVENTS[][EVENT_BYTES] = {
@@ -128,143 +138,148 @@ static void fill_run(void) {
     }
 }
 
-/* ---- Both sides of each call ---- */
+/* ---- The sides of each call ---- */
+
+enum { CARDS = 16 }; /* a card's step is short: beside one alone, so many in one call, that the clock's reading hardly counts */
 
 typedef struct {
-    Held held;          /* the state, before and after */
+    Held held; /* the state, before and after */
+    Purse cards[CARDS];
     uint8_t answer;
-    uint8_t bytes[IMAGE_MOST];
+    uint8_t bytes[PRS_IMAGE_MAX];
     size_t length;
     uint32_t figure;
     uint8_t answers[RUN_EVENTS];
-    CardAnswer card;
+    CardHanded handed;
 } World;
 
 static Held before;
 static const uint8_t *event;
-static uint8_t image[IMAGE_MOST];
+static uint8_t image[PRS_IMAGE_MAX];
 static size_t image_length;
-static size_t run_events;
+static unsigned run_events;
+static unsigned card_steps;
+static Name own;       /* the card's name, */
+static CardEvent told; /* what it is told, */
+static prs_order order; /* and the same for ours */
+static const Amount balances[PURSES] = {{1000}, {200}, {CEILING}};
+
+#define OUR_TABLE(w) ((prs_purse *)(w)->held.table)
+#define OUR_DESK(w) ((prs_desk *)&(w)->held.desk)
 
 static void our_event(World *w) {
-#ifdef LENT
-    Reply a = lent_event(w->held.table, PURSES, w->held.desk, event, EVENT_BYTES);
-    w->answer = a.answer;
-    w->held.desk = a.desk;
-#else
-    Answered a = timed_event(w->held, event, EVENT_BYTES);
-    w->answer = a.answer;
-    w->held = a.held;
-#endif
-}
-static void c_event(World *w) {
-    w->answer = bench_event(w->held.table, PURSES, &w->held.desk, event, EVENT_BYTES);
+    w->answer = prs_event(OUR_TABLE(w), PURSES, OUR_DESK(w), event, EVENT_BYTES);
 }
 static void our_run(World *w) {
-    Ran r = timed_run(w->held, run_input, run_events * EVENT_BYTES, w->answers, run_events);
-    w->length = r.taken;
-    w->held = r.held;
-}
-static void c_run(World *w) {
-    w->length = bench_run(w->held.table, PURSES, &w->held.desk, run_input,
-                          run_events * EVENT_BYTES, w->answers);
+    w->length = prs_run(OUR_TABLE(w), PURSES, OUR_DESK(w), run_input, run_events * EVENT_BYTES,
+                        w->answers, run_events);
 }
 static void our_write(World *w) {
-#ifdef LENT
-    Written r = lent_write(w->held.table, PURSES, w->held.desk, w->bytes, sizeof w->bytes);
-    w->answer = r.answer;
-    w->length = r.length;
-#else
-    Written r = timed_write(w->held, w->bytes, sizeof w->bytes);
-    w->answer = r.answer;
-    w->length = r.length;
-#endif
-}
-static void c_write(World *w) {
-    w->answer = image_write(w->held.table, PURSES, &w->held.desk, w->bytes, sizeof w->bytes,
-                            &w->length);
+    prs_written written = prs_write(OUR_TABLE(w), PURSES, OUR_DESK(w), w->bytes, sizeof w->bytes);
+    w->answer = written.answer;
+    w->length = written.length;
 }
 static void our_read(World *w) {
-#ifdef LENT
-    Reply a = lent_read(w->held.table, PURSES, w->held.desk, image, image_length);
-    w->answer = a.answer;
-    w->held.desk = a.desk;
-#else
-    Answered a = timed_read(w->held, image, image_length);
-    w->answer = a.answer;
-    w->held = a.held;
-#endif
-}
-static void c_read(World *w) {
-    w->answer = image_read(w->held.table, PURSES, &w->held.desk, image, image_length);
+    w->answer = prs_read(OUR_TABLE(w), PURSES, OUR_DESK(w), image, image_length);
 }
 static void our_claims(World *w) {
-#ifdef LENT
-    Figure f = lent_claims(w->held.table, PURSES, w->held.desk);
-    w->answer = f.answer;
-    w->figure = f.claims;
-#else
-    Figure f = timed_claims(w->held);
-    w->answer = f.answer;
-    w->figure = f.claims;
-#endif
-}
-static void c_claims(World *w) {
-    w->answer = bench_claims(w->held.table, PURSES, &w->held.desk, &w->figure);
+    prs_figure owed = prs_claims(OUR_TABLE(w), PURSES, OUR_DESK(w));
+    w->answer = owed.answer;
+    w->figure = owed.claims;
 }
 static void our_card(World *w) {
-#ifdef LENT
-    static const Order told = {START_FROM, {1}, {9}, {300}, {0, {{0}, {0}, {0}, {0}, {0}}}};
-    Name own = {0};
-    Handed handed = lent_card(&w->held.table[0], own, told);
+    prs_name name = {own.value};
+    prs_handed handed;
+    for (unsigned i = 0; i < card_steps; i++)
+        handed = prs_card((prs_purse *)&w->cards[i], name, order);
     w->answer = handed.answer;
-    w->card.message = handed.message;
-    w->card.entry = handed.entry;
-#else
-    Name own = {0}, other = {1};
-    Seq seq = {9};
-    Amount amount = {300};
-    w->card = timed_start_from(w->held.table[0], own, other, seq, amount);
-    w->answer = w->card.answer;
-    w->held.table[0] = w->card.purse;
-#endif
+    memcpy(&w->handed.sent, &handed.message, sizeof handed.message);
+    memcpy(&w->handed.collected, &handed.entry, sizeof handed.entry);
 }
-static void c_card(World *w) {
-    static const CardEvent told = {START_FROM, {1}, {9}, {300}, {0, {{0}, {0}, {0}, {0}, {0}}}};
-    CardHanded handed;
-    Name own = {0};
-    w->answer = card_step(&w->held.table[0], own, &told, &handed);
-    w->card.message = handed.sent;
-    w->card.entry = handed.collected;
+static void our_opening(World *w) {
+    w->answer = prs_opening(OUR_TABLE(w), PURSES, OUR_DESK(w), (const uint32_t *)balances, PURSES);
 }
+
+/* Plain C and the C with keys have the same functions, but for the names. */
+#define C_SIDES(side, prefix)                                                                          \
+    static void side##_event(World *w) {                                                               \
+        w->answer = prefix##bench_event(w->held.table, PURSES, &w->held.desk, event, EVENT_BYTES);     \
+    }                                                                                                  \
+    static void side##_run(World *w) {                                                                 \
+        w->length = prefix##bench_run(w->held.table, PURSES, &w->held.desk, run_input,                 \
+                                      run_events * EVENT_BYTES, w->answers);                           \
+    }                                                                                                  \
+    static void side##_write(World *w) {                                                               \
+        w->answer = prefix##image_write(w->held.table, PURSES, &w->held.desk, w->bytes,                \
+                                        sizeof w->bytes, &w->length);                                  \
+    }                                                                                                  \
+    static void side##_read(World *w) {                                                                \
+        w->answer =                                                                                    \
+            prefix##image_read(w->held.table, PURSES, &w->held.desk, image, image_length);             \
+    }                                                                                                  \
+    static void side##_claims(World *w) {                                                              \
+        w->answer = prefix##bench_claims(w->held.table, PURSES, &w->held.desk, &w->figure);            \
+    }                                                                                                  \
+    static void side##_card(World *w) {                                                                \
+        for (unsigned i = 0; i < card_steps; i++)                                                      \
+            w->answer = prefix##card_step(&w->cards[i], own, &told, &w->handed);                       \
+    }                                                                                                  \
+    static void side##_opening(World *w) {                                                             \
+        w->answer = prefix##bench_open(w->held.table, PURSES, &w->held.desk, balances, PURSES);        \
+    }
+C_SIDES(plain, )
+C_SIDES(keyed, keyed_)
+
 static void nothing(World *w) {
     (void)w;
 }
 
 typedef void Side(World *);
-typedef struct { const char *name; Side *ours, *plain; } Call;
+enum { OURS, PLAIN, KEYED, SIDE_COUNT };
+static const char *const SIDES[] = {"ours", "plain", "keyed"};
+typedef struct { const char *name; unsigned stack; Side *sides[SIDE_COUNT]; } Call;
 static const Call CALLS[] = {
-    {"checked", our_event, c_event}, {"run", our_run, c_run},
-    {"image_write", our_write, c_write}, {"image_read", our_read, c_read},
-    {"claims", our_claims, c_claims}, {"card_step", our_card, c_card}};
-enum { CALL_COUNT = sizeof CALLS / sizeof *CALLS };
+    {"checked", PRS_STACK_EVENT, {our_event, plain_event, keyed_event}},
+    {"run", PRS_STACK_RUN, {our_run, plain_run, keyed_run}},
+    {"image_write", PRS_STACK_WRITE, {our_write, plain_write, keyed_write}},
+    {"image_read", PRS_STACK_READ, {our_read, plain_read, keyed_read}},
+    {"claims", PRS_STACK_CLAIMS, {our_claims, plain_claims, keyed_claims}},
+    {"card_step", PRS_STACK_CARD, {our_card, plain_card, keyed_card}},
+    {"opening", PRS_STACK_OPENING, {our_opening, plain_opening, keyed_opening}}};
+enum { CHECKED, RUN, IMAGE_WRITE, IMAGE_READ, CLAIMS, CARD_STEP, OPENING, CALL_COUNT };
 
-static World ours, plain;
+static World worlds[SIDE_COUNT];
+
+static void tell(uint8_t name, EventKind kind, uint8_t other, uint32_t seq, uint32_t amount, Message message) {
+    own.value = name;
+    told = (CardEvent){kind, {other}, {seq}, {amount}, message};
+    order = (prs_order){(uint8_t)kind, {other}, {seq}, {amount}, {0}};
+    memcpy(&order.message, &message, sizeof message);
+}
+
+/* What the figures tell the card. */
+static void tell_start(void) {
+    tell(0, START_FROM, 1, 9, 300, (Message){0});
+}
 
 static void ready(World *w) {
     memset(w, 0, sizeof *w);
     memcpy(&w->held, &before, sizeof before);
+    for (unsigned i = 0; i < CARDS; i++)
+        w->cards[i] = before.table[own.value % PURSES];
 }
 
 static void set_size(const Size *size) {
     fill(&before, size->messages, size->entries, size->logged);
+    if (size->keys != APART)
+        collide(&before, size->keys == SAME_KEY_AND_PAYERSEQ);
     if (image_write(before.table, PURSES, &before.desk, image, sizeof image, &image_length) != 0) {
         printf("the state %s breaks the rules\n", size->name);
         exit(1);
     }
 }
 
-/* ---- Both answer the same ---- */
+/* ---- All answer the same ---- */
 
 /* Field by field, since padding may differ. */
 static bool alike_purse(const Purse *a, const Purse *b) {
@@ -295,24 +310,37 @@ static bool alike_held(const Held *a, const Held *b) {
     return true;
 }
 
+static bool alike(const World *a, const World *b) {
+    if (a->answer != b->answer || a->length != b->length || a->figure != b->figure ||
+        memcmp(a->bytes, b->bytes, sizeof a->bytes) != 0 ||
+        memcmp(a->answers, b->answers, sizeof a->answers) != 0)
+        return false;
+    uint8_t x[PLACE_BYTES + DETAILS_BYTES], y[PLACE_BYTES + DETAILS_BYTES];
+    pack_message(x, &a->handed.sent);
+    pack_message(y, &b->handed.sent);
+    pack_details(x + PLACE_BYTES, &a->handed.collected);
+    pack_details(y + PLACE_BYTES, &b->handed.collected);
+    if (memcmp(x, y, sizeof x) != 0)
+        return false;
+    for (unsigned i = 0; i < CARDS; i++)
+        if (!alike_purse(&a->cards[i], &b->cards[i]))
+            return false;
+    return alike_held(&a->held, &b->held);
+}
+
 static unsigned long compared;
 
-static void compare(const Call *call, const char *where) {
-    ready(&ours);
-    ready(&plain);
-    call->ours(&ours);
-    call->plain(&plain);
-    uint8_t x[PLACE_BYTES], y[PLACE_BYTES];
-    pack_message(x, &ours.card.message);
-    pack_message(y, &plain.card.message);
-    if (ours.answer != plain.answer || ours.length != plain.length ||
-        ours.figure != plain.figure || memcmp(ours.bytes, plain.bytes, sizeof ours.bytes) != 0 ||
-        memcmp(ours.answers, plain.answers, sizeof ours.answers) != 0 ||
-        memcmp(x, y, sizeof x) != 0 || !alike_held(&ours.held, &plain.held)) {
-        printf("%s differs at %s: answers %u and %u\n", call->name, where, ours.answer,
-               plain.answer);
-        exit(1);
+static void compare(const Call *call, const char *at) {
+    for (unsigned s = 0; s < SIDE_COUNT; s++) {
+        ready(&worlds[s]);
+        call->sides[s](&worlds[s]);
     }
+    for (unsigned s = 0; s < SIDE_COUNT; s++)
+        if (!alike(&worlds[s], &worlds[PLAIN])) {
+            printf("%s differs at %s: %s answers %u, plain %u\n", call->name, at, SIDES[s],
+                   worlds[s].answer, worlds[PLAIN].answer);
+            exit(1);
+        }
     compared++;
 }
 
@@ -339,6 +367,19 @@ static void draw_event(uint8_t *e) {
         e[draw(EVENT_BYTES)] = (uint8_t)draw(256);
 }
 
+/* An order of every kind to a card, its own name now and then too high or another's; the message is one that stands, or a damaged one. */
+static void draw_order(void) {
+    static const EventKind kinds[] = {START_FROM, START_TO, DELIVER, ABORT, COLLECT};
+    uint8_t name = (uint8_t)draw(draw(20) == 0 ? 40 : 4);
+    Message message = before.desk.ether.places[draw(8)];
+    if (draw(4) == 0) {
+        message.kind = (uint8_t)draw(5);
+        message.details = before.table[name % PURSES].details;
+    }
+    tell(name, kinds[draw(5)], (uint8_t)draw(draw(20) == 0 ? 40 : 4), NEXT + draw(4),
+         draw(20) == 0 ? draw(6000000) : 1 + draw(3), message);
+}
+
 static void check(void) {
     uint8_t e[EVENT_BYTES];
     for (unsigned s = 0; s < SIZE_COUNT; s++) {
@@ -352,12 +393,14 @@ static void check(void) {
         event = e;
         for (unsigned i = 0; i < 3000; i++) {
             draw_event(e);
-            compare(&CALLS[0], SIZES[s].name);
-            memcpy(&before, &plain.held, sizeof before);
+            compare(&CALLS[CHECKED], SIZES[s].name);
+            memcpy(&before, &worlds[PLAIN].held, sizeof before);
+            draw_order();
+            compare(&CALLS[CARD_STEP], SIZES[s].name);
             if (i % 100 == 0) {
                 image_write(before.table, PURSES, &before.desk, image, sizeof image,
                             &image_length);
-                for (unsigned k = 1; k < CALL_COUNT; k++)
+                for (unsigned k = CHECKED + 1; k < CALL_COUNT; k++)
                     compare(&CALLS[k], SIZES[s].name);
             }
         }
@@ -371,12 +414,13 @@ static void check(void) {
             uint8_t was = image[at];
             image[at] ^= (uint8_t)(1 + draw(255));
             draw_event(e);
+            draw_order();
             for (unsigned k = 0; k < CALL_COUNT; k++)
                 compare(&CALLS[k], "a damaged state");
             image[at] = was;
         }
     }
-    printf("both sides alike in %lu calls\n", compared);
+    printf("all sides alike in %lu calls\n", compared);
 }
 
 /* ---- Instructions, under callgrind ---- */
@@ -384,36 +428,50 @@ static void check(void) {
 /* Each side twice, the second counted, so that what is loaded at first use does not count. */
 static void count_call(const Call *call, const char *label) {
     char name[80];
-    Side *sides[] = {call->ours, call->plain};
-    for (unsigned s = 0; s < 2; s++) {
-        World *w = s ? &plain : &ours;
+    for (unsigned s = 0; s < SIDE_COUNT; s++)
         for (unsigned turn = 0; turn < 2; turn++) {
-            ready(w);
-            snprintf(name, sizeof name, "%s %s %s", turn ? "count" : "first", label,
-                     s ? "plain" : "ours");
+            ready(&worlds[s]);
+            snprintf(name, sizeof name, "%s %s %s", turn ? "count" : "first", label, SIDES[s]);
             CALLGRIND_ZERO_STATS;
-            sides[s](w);
+            call->sides[s](&worlds[s]);
             CALLGRIND_DUMP_STATS_AT(name);
         }
-    }
 }
 
-static const struct { const char *name; unsigned call, size; size_t events; } FIGURES[] = {
-    {"checked_empty", 0, 0, 1},   {"checked_middling", 0, 1, 1}, {"checked_full", 0, 2, 1},
-    {"checked_messages", 0, 3, 1}, {"checked_archive", 0, 4, 1},
-    {"run_empty", 1, 0, 256},     {"run_middling", 1, 1, 256},   {"run_full", 1, 2, 256},
-    {"run_full_1", 1, 2, 1},      {"run_full_16", 1, 2, 16},     {"run_full_64", 1, 2, 64},
-    {"image_write_empty", 2, 0, 0}, {"image_write_middling", 2, 1, 0}, {"image_write", 2, 2, 0},
-    {"image_read_empty", 3, 0, 0}, {"image_read_middling", 3, 1, 0}, {"image_read", 3, 2, 0},
-    {"claims_empty", 4, 0, 0},    {"claims_middling", 4, 1, 0},  {"claims", 4, 2, 0},
-    {"card_step_empty", 5, 0, 0}, {"card_step", 5, 2, 0}};
+/* `many` events in a run, or steps of a card. */
+static const struct { const char *name; unsigned call, size, many; } FIGURES[] = {
+    {"checked_empty", CHECKED, EMPTY, 0},
+    {"checked_middling", CHECKED, MIDDLING, 0},
+    {"checked_full", CHECKED, FULL, 0},
+    {"checked_messages", CHECKED, MESSAGES, 0},
+    {"checked_archive", CHECKED, ARCHIVE, 0},
+    {"checked_colliding", CHECKED, COLLIDING, 0},
+    {"checked_colliding_worst", CHECKED, COLLIDING_WORST, 0},
+    {"run_empty", RUN, EMPTY, 256},
+    {"run_middling", RUN, MIDDLING, 256},
+    {"run_full", RUN, FULL, 256},
+    {"run_full_1", RUN, FULL, 1},
+    {"run_full_16", RUN, FULL, 16},
+    {"run_full_64", RUN, FULL, 64},
+    {"image_write_empty", IMAGE_WRITE, EMPTY, 0},
+    {"image_write_middling", IMAGE_WRITE, MIDDLING, 0},
+    {"image_write", IMAGE_WRITE, FULL, 0},
+    {"image_read_empty", IMAGE_READ, EMPTY, 0},
+    {"image_read_middling", IMAGE_READ, MIDDLING, 0},
+    {"image_read", IMAGE_READ, FULL, 0},
+    {"claims_empty", CLAIMS, EMPTY, 0},
+    {"claims_middling", CLAIMS, MIDDLING, 0},
+    {"claims", CLAIMS, FULL, 0},
+    {"card_step_empty", CARD_STEP, EMPTY, 1},
+    {"card_step", CARD_STEP, FULL, 1},
+    {"card_step_of_16", CARD_STEP, FULL, CARDS}};
 enum { FIGURE_COUNT = sizeof FIGURES / sizeof *FIGURES };
 
 static void count(void) {
     for (unsigned f = 0; f < FIGURE_COUNT; f++) {
         set_size(&SIZES[FIGURES[f].size]);
-        run_events = FIGURES[f].events;
-        unsigned many = FIGURES[f].call == 0 ? EVENT_COUNT : 1;
+        run_events = card_steps = FIGURES[f].many;
+        unsigned many = FIGURES[f].call == CHECKED ? EVENT_COUNT : 1;
         for (unsigned i = 0; i < many; i++) {
             event = EVENTS[i];
             count_call(&CALLS[FIGURES[f].call], FIGURES[f].name);
@@ -436,27 +494,29 @@ static double once(Side *side, World *w) {
     return seconds() - start;
 }
 
+enum { TURNS = 1000 };
+
 static void time_all(void) {
     for (unsigned f = 0; f < FIGURE_COUNT; f++) {
         const Call *call = &CALLS[FIGURES[f].call];
         set_size(&SIZES[FIGURES[f].size]);
-        run_events = FIGURES[f].events;
-        unsigned many = FIGURES[f].call == 0 ? EVENT_COUNT : 1;
-        unsigned turns = FIGURES[f].call == 1 && run_events > 16 ? 100 : 400;
-        double least[2] = {0, 0};
+        run_events = card_steps = FIGURES[f].many;
+        unsigned many = FIGURES[f].call == CHECKED ? EVENT_COUNT : 1;
+        double sum[SIDE_COUNT] = {0};
         for (unsigned i = 0; i < many; i++) {
-            double a = 1, b = 1;
+            double least[SIDE_COUNT] = {1, 1, 1};
             event = EVENTS[i];
-            for (unsigned turn = 0; turn < turns; turn++) {
-                double x = once(call->ours, &ours), y = once(call->plain, &plain);
-                a = x < a ? x : a;
-                b = y < b ? y : b;
-            }
-            least[0] += a;
-            least[1] += b;
+            for (unsigned turn = 0; turn < TURNS; turn++)
+                for (unsigned s = 0; s < SIDE_COUNT; s++) {
+                    double t = once(call->sides[s], &worlds[s]);
+                    least[s] = t < least[s] ? t : least[s];
+                }
+            for (unsigned s = 0; s < SIDE_COUNT; s++)
+                sum[s] += least[s];
         }
-        printf("time %s %.0f %.0f\n", FIGURES[f].name, 1e9 * least[0] / many,
-               1e9 * least[1] / many);
+        double each = 1e9 / (FIGURES[f].call == CARD_STEP ? card_steps : many);
+        printf("time %s %.1f %.1f %.1f\n", FIGURES[f].name, each * sum[OURS], each * sum[PLAIN],
+               each * sum[KEYED]);
     }
 }
 
@@ -465,7 +525,7 @@ static void time_all(void) {
 static ucontext_t outside, inside;
 static Side *deep;
 static World *deep_world;
-enum { STACK = 8 << 20, PAINT = 0xA5 };
+enum { STACK = 1 << 20, PAINT = 0xA5 };
 
 static void run_deep(void) {
     deep(deep_world);
@@ -489,39 +549,45 @@ static size_t depth(Side *side, World *w) {
     return sizeof stack - left;
 }
 
-static void stack_all(void) {
-    set_size(&SIZES[FULL]);
+/* The deepest of each call, over all states and events. */
+static bool stack_all(void) {
+    bool kept = true;
     run_events = RUN_EVENTS;
-    size_t none = depth(nothing, &ours);
+    size_t none = depth(nothing, &worlds[OURS]);
     for (unsigned k = 0; k < CALL_COUNT; k++) {
-        size_t most[2] = {0, 0};
-        for (unsigned i = 0; i < EVENT_COUNT; i++) {
-            event = EVENTS[i];
-            /* once before, so that no function of the C library is looked up on the painted stack */
-            ready(&ours);
-            ready(&plain);
-            CALLS[k].ours(&ours);
-            CALLS[k].plain(&plain);
-            ready(&ours);
-            ready(&plain);
-            size_t a = depth(CALLS[k].ours, &ours), b = depth(CALLS[k].plain, &plain);
-            most[0] = a > most[0] ? a : most[0];
-            most[1] = b > most[1] ? b : most[1];
+        size_t most[SIDE_COUNT] = {0};
+        for (unsigned z = 0; z < SIZE_COUNT; z++) {
+            set_size(&SIZES[z]);
+            for (unsigned i = 0; i < EVENT_COUNT; i++)
+                for (unsigned s = 0; s < SIDE_COUNT; s++) {
+                    event = EVENTS[i];
+                    /* once before, so that no function of the C library is looked up on the painted stack */
+                    ready(&worlds[s]);
+                    CALLS[k].sides[s](&worlds[s]);
+                    ready(&worlds[s]);
+                    size_t deepest = depth(CALLS[k].sides[s], &worlds[s]) - none;
+                    most[s] = deepest > most[s] ? deepest : most[s];
+                }
         }
-        printf("stack %s %zu %zu\n", CALLS[k].name, most[0] - none, most[1] - none);
+        printf("stack %s %zu %zu %zu %u\n", CALLS[k].name, most[OURS], most[PLAIN], most[KEYED],
+               CALLS[k].stack);
+        kept = kept && most[OURS] <= CALLS[k].stack;
     }
+    return kept;
 }
 
 int main(int argc, char **argv) {
     const char *what = argc > 1 ? argv[1] : "check";
     fill_run();
     run_events = RUN_EVENTS;
+    card_steps = CARDS;
+    tell_start();
     if (strcmp(what, "count") == 0)
         count();
     else if (strcmp(what, "time") == 0)
         time_all();
     else if (strcmp(what, "stack") == 0)
-        stack_all();
+        return !stack_all();
     else
         check();
     return 0;

@@ -23,6 +23,7 @@ run() {
     fi
 }
 
+run header tests/header.py
 run edges tests/edges.py
 run money tests/money.py
 run vectors tests/vectors.py
