@@ -1,5 +1,5 @@
-// What an event does at the record that it names and the desk, where the table is well formed. First it is chosen: the tests that read
-// the desk stand here, in document 01's order; the others are the card's. Then what is chosen is done.
+// What an event does at the record that it names and the desk, where the table is well formed: the tests that read the desk come first,
+// in document 01's order; then the card is told, at the head of the record; then it is settled.
 use crate::Acted;
 use crate::Asked;
 use crate::Change;
@@ -20,7 +20,8 @@ ghost use mathlib.Core.Path.{_≡_};
 ghost use lib.ListN.{getD};
 ghost use Rattle.purse.specs.Tests.{first};
 ghost use Rattle.purse.specs.Details.{zeroMessage};
-ghost use Rattle.bench.specs.Acts.{placeIn, placeOf, deliveredAt, startTests, deliverTests, purseTests, loseTests, toSend, toTell, toArchive, toCollect, chosen, carriedOut, settled, actOn};
+ghost use Rattle.card.specs.Act.{refusedAt, turnBy};
+ghost use Rattle.bench.specs.Acts.{placeIn, placeOf, deliveredAt, startTests, deliverTests, purseTests, loseTests, toTell, toCollect, toLose, asked, orFull, toldAt, toSend, entryOf, changeOf, carriedOut, settled, actOn};
 
 // The place of a name in the table of 32; 0 for a name above 31.
 fn place_in(name: Name) -> usize
@@ -203,7 +204,7 @@ fn left(head: Head, n: u8) -> Turned
 
 // The card collects; 15, where the archive is full, comes after its 14.
 fn collect(head: Head, own: Name, full: bool) -> Turned
-    ensures { λ r. ⌜ r ≡ collected head own full ⌝ }
+    ensures { λ r. ⌜ r ≡ orFull full (turnBy head own CardEvent.Collect) ⌝ }
 {
     let mut t = card::turn(head, own, CardEvent::Collect);
     t.answer = tested(t.answer, full, 15);
@@ -212,7 +213,7 @@ fn collect(head: Head, own: Name, full: bool) -> Turned
 
 // What is asked for, at the head of the record: the card is told.
 pub(crate) fn tell(head: Head, asked: Asked) -> Turned
-    ensures { λ r. ⌜ r ≡ told head asked ⌝ }
+    ensures { λ r. ⌜ r ≡ toldAt head asked ⌝ }
 {
     match asked {
         Asked::Refused(n) => left(head, n),

@@ -1,10 +1,10 @@
--- `bench::acts::choose` meets its contract: each arm hands the numbers of its tests to the function of its kind, which is the definition's
+-- `bench::acts::ask` meets its contract: each arm hands the numbers of its tests to the function of its kind, which is the definition's
 -- line for that kind.
 -- Assumes nothing.
-use Rattle.bench.specs.Acts.{chosen}
+use Rattle.bench.specs.Acts.{asked}
 use borrow.Author.Needs.{needs}
-use Rattle.bench.proofs.acts.choose.Statement.{statement}
-use Rattle.bench.proofs.acts.choose.Tie as tie
+use Rattle.bench.proofs.acts.ask.Statement.{statement}
+use Rattle.bench.proofs.acts.ask.Tie as tie
 
 enum-told : tie.Need-enum-told
 enum-told c = search needs
@@ -15,8 +15,8 @@ enum-known-event c = search needs
 start-number-requires : tie.Need-start-number-requires
 start-number-requires c κs = search needs
 
-tell-requires : tie.Need-tell-requires
-tell-requires c κs = search needs
+telling-requires : tie.Need-telling-requires
+telling-requires c κs = search needs
 
 enum-known-event-2 : tie.Need-enum-known-event-2
 enum-known-event-2 c = search needs
@@ -24,8 +24,8 @@ enum-known-event-2 c = search needs
 start-number-requires-2 : tie.Need-start-number-requires-2
 start-number-requires-2 c κs = search needs
 
-tell-requires-2 : tie.Need-tell-requires-2
-tell-requires-2 c κs = search needs
+telling-requires-2 : tie.Need-telling-requires-2
+telling-requires-2 c κs = search needs
 
 enum-known-event-3 : tie.Need-enum-known-event-3
 enum-known-event-3 c = search needs
@@ -33,8 +33,8 @@ enum-known-event-3 c = search needs
 deliver-number-requires : tie.Need-deliver-number-requires
 deliver-number-requires c κs = search needs
 
-tell-requires-3 : tie.Need-tell-requires-3
-tell-requires-3 c κs = search needs
+telling-requires-3 : tie.Need-telling-requires-3
+telling-requires-3 c κs = search needs
 
 enum-known-event-4 : tie.Need-enum-known-event-4
 enum-known-event-4 c = search needs
@@ -42,8 +42,8 @@ enum-known-event-4 c = search needs
 purse-number-requires : tie.Need-purse-number-requires
 purse-number-requires c κs = search needs
 
-tell-requires-4 : tie.Need-tell-requires-4
-tell-requires-4 c κs = search needs
+telling-requires-4 : tie.Need-telling-requires-4
+telling-requires-4 c κs = search needs
 
 enum-known-event-5 : tie.Need-enum-known-event-5
 enum-known-event-5 c = search needs
@@ -51,65 +51,69 @@ enum-known-event-5 c = search needs
 lose-number-requires : tie.Need-lose-number-requires
 lose-number-requires c κs = search needs
 
+losing-requires : tie.Need-losing-requires
+losing-requires c κs = search needs
+
 enum-known-event-6 : tie.Need-enum-known-event-6
 enum-known-event-6 c = search needs
 
 purse-number-requires-2 : tie.Need-purse-number-requires-2
 purse-number-requires-2 c κs = search needs
 
-collect-requires : tie.Need-collect-requires
-collect-requires c κs = search needs
+collecting-requires : tie.Need-collecting-requires
+collecting-requires c κs = search needs
 
 returns : tie.Need-returns
-unfolding chosen
+unfolding asked
 returns c = rw (c .enum-told .given .1)
 
 returns-2 : tie.Need-returns-2
-unfolding chosen
-returns-2 c = rw (c .tell .ensures, c .before .start-number .ensures, c .before .before .before .event .given .1)
+unfolding asked
+returns-2 c = rw (c .telling .ensures, c .before .start-number .ensures, c .before .before .before .event .given .1)
 
 returns-3 : tie.Need-returns-3
-unfolding chosen
-returns-3 c = rw (c .tell2 .ensures, c .before .start-number2 .ensures, c .before .before .before .event2 .given .1)
+unfolding asked
+returns-3 c = rw (c .telling2 .ensures, c .before .start-number2 .ensures, c .before .before .before .event2 .given .1)
 
 returns-4 : tie.Need-returns-4
-unfolding chosen
-returns-4 c = rw (c .tell3 .ensures, c .before .before .deliver-number .ensures, c .before .before .before .before .event3 .given .1)
+unfolding asked
+returns-4 c = rw (c .telling3 .ensures, c .before .before .deliver-number .ensures, c .before .before .before .before .event3 .given .1)
 
 returns-5 : tie.Need-returns-5
-unfolding chosen
-returns-5 c = rw (c .tell4 .ensures, c .before .purse-number .ensures, c .before .before .before .event4 .given .1)
+unfolding asked
+returns-5 c = rw (c .telling4 .ensures, c .before .purse-number .ensures, c .before .before .before .event4 .given .1)
 
 returns-6 : tie.Need-returns-6
-unfolding chosen
-returns-6 c = rw (c .lose-number .ensures, c .before .before .event5 .given .1)
+unfolding asked
+returns-6 c = rw (c .losing .ensures, c .before .lose-number .ensures, c .before .before .before .event5 .given .1)
 
 returns-7 : tie.Need-returns-7
-unfolding chosen
-returns-7 c = rw (c .collect .ensures, c .before .purse-number2 .ensures, c .before .before .before .event6 .given .1)
+unfolding asked
+returns-7 c = rw (c .collecting .ensures, c .before .purse-number2 .ensures, c .before .before .before .event6 .given .1)
 
-pub choose-spec : {M : Type 1} → statement M
-choose-spec =
+pub ask-spec : {M : Type 1} → statement M
+ask-spec =
     tie.close
     (tie.spec
     enum-told
     enum-known-event
     start-number-requires
-    tell-requires
+    telling-requires
     enum-known-event-2
     start-number-requires-2
-    tell-requires-2
+    telling-requires-2
     enum-known-event-3
     deliver-number-requires
-    tell-requires-3
+    telling-requires-3
     enum-known-event-4
     purse-number-requires
-    tell-requires-4
+    telling-requires-4
     enum-known-event-5
     lose-number-requires
+    losing-requires
     enum-known-event-6
     purse-number-requires-2
-    collect-requires
+    collecting-requires
     returns
     returns-2
     returns-3
