@@ -13,6 +13,7 @@ use lib.Dec.{ltb, leb, eqb}
 use native.Mathlib.Omega.{arith}
 use borrow.Author.Tests.{leb-true, leb-false, ltb-true, le-leb, lt-ltb}
 use Rattle.purse.specs.declared.Name.{Name}
+use Rattle.purse.specs.declared.Details.{Details}
 use Rattle.purse.specs.declared.Message.{Message}
 use Rattle.purse.specs.declared.Purse.{Purse}
 use Rattle.purse.specs.declared.CardAnswer.{CardAnswer}
@@ -20,10 +21,13 @@ use Rattle.purse.specs.declared.CardEvent.{CardEvent}
 use Rattle.purse.specs.declared.CardEvent.the-variants as card
 use Rattle.purse.specs.Lists.{padded, without}
 use Rattle.purse.specs.Tests.{first}
-use Rattle.purse.specs.Details.{zeroMessage}
+use Rattle.purse.specs.Details.{zeroDetails, zeroMessage}
 use Rattle.purse.specs.Purse.{zeroPurse}
-use Rattle.refusals.specs.Act.{actBy}
-use Rattle.refusals.proofs.Act.{step-act}
+use Rattle.refusals.specs.Heads.{headOf}
+use Rattle.refusals.specs.Numbers.{collectNumber}
+use Rattle.card.specs.declared.Turned.{Turned}
+use Rattle.card.specs.Act.{takenAt, turnCollect, turnBy, recordAfter, answeredBy, actBy}
+use Rattle.card.proofs.ByAct.{step-act}
 use Rattle.purse.proofs.Bools.{which}
 use Rattle.purse.proofs.Padded.{set-padded, push-padded, pull-padded, read-padded}
 use Rattle.desk.specs.declared.Entry.{Entry}
@@ -39,8 +43,9 @@ use Rattle.rules.specs.Steps.{Answer, withPurse, sending, carried, archiving, t
 use Rattle.rules.specs.Laid.{laid, seen, heldOk, heldStep}
 use Rattle.rules.proofs.Places.{seen-ok, laid-seen}
 use Rattle.rules.proofs.Facts.{Table, is-table}
+use Rattle.bench.specs.declared.Asked.the-variants as asks
 use Rattle.bench.specs.declared.Change.the-variants as change
-use Rattle.bench.specs.Acts.{placeIn, placeOf, deliveredAt, startTests, deliverTests, purseTests, loseTests, toSend, toCarry, toTell, toArchive, toCollect, chosen, carriedOut, refusedOn, settled, actOn, putBack, byRecord}
+use Rattle.bench.specs.Acts.{placeIn, placeOf, deliveredAt, startTests, deliverTests, purseTests, loseTests, toTell, toCollect, toLose, asked, orFull, toldAt, toSend, changeOf, carriedOut, refusedOn, settled, answeredOn, actOn, putBack, byRecord}
 
 -- an answer on the lists, laid out
 abbrev shown : Answer → Answered
@@ -106,43 +111,47 @@ module _ (b : Bench) (t : Table b) (own : Name) where
         ap (λ (i : ℕ). getD (laid b .table) i zeroPurse) (place-in b t own h)
         ∙ read-padded 32 zeroPurse (b .purses) (own .0) h
 
-    carried-laid : (a : CardAnswer) → shown (carried b (own .0) a) ≡ putBack (laid b) (placeIn own) (settled here (laid b .desk) (toCarry a))
+    -- what the card made of the head, put together, and its message sent
+    carried-laid : (u : Turned) → shown (carried b (own .0) (answeredBy here u)) ≡ putBack (laid b) (placeIn own) (settled here (laid b .desk) u (toSend (u .message)))
     unfolding settled
-    carried-laid a =
+    carried-laid u =
         ⊎-elim
-        (λ (k : eqb (a .answer) 0 ≡ true).
+        (λ (k : eqb (u .answer) 0 ≡ true).
+        let q : Purse = recordAfter here (u .head) (u .log) in
         rw k
-        (sent-laid b (own .0) (a .purse) (a .message) h
-        ∙ ap (λ (i : ℕ). putBack (laid b) i (carriedOut (a .purse) (laid b .desk) (toSend (a .message)))) (sym (place-in b t own h))))
-        (λ (k : eqb (a .answer) 0 ≡ false). rw k (stays (laid b) (a .answer) (placeIn own)))
-        (which (eqb (a .answer) 0))
+        (sent-laid b (own .0) q (u .message) h
+        ∙ ap (λ (i : ℕ). putBack (laid b) i (carriedOut q (laid b .desk) (toSend (u .message)))) (sym (place-in b t own h))))
+        (λ (k : eqb (u .answer) 0 ≡ false). rw k (stays (laid b) (u .answer) (placeIn own)))
+        (which (eqb (u .answer) 0))
 
     -- what the card is told at a record of the table, which is well formed
     told-act : (e : CardEvent) → told b (own .0) e ≡ actBy here own e
     told-act e =
         step-act own (purseAt b (own .0)) (t .well (own .0) h) e ∙ ap (λ (p : Purse). actBy p own e) (sym found)
 
-    told-laid : (e : CardEvent) → shown (carried b (own .0) (told b (own .0) e)) ≡ putBack (laid b) (placeIn own) (settled here (laid b .desk) (toCarry (actBy here own e)))
+    told-laid : (e : CardEvent) → shown (carried b (own .0) (told b (own .0) e)) ≡ putBack (laid b) (placeIn own) (answeredOn here (laid b .desk) (asks.Tell own e))
+    unfolding toldAt changeOf
     told-laid e =
-        carried-laid (told b (own .0) e)
-        ∙ ap (λ (a : CardAnswer). putBack (laid b) (placeIn own) (settled here (laid b .desk) (toCarry a))) (told-act e)
+        ap (λ (a : CardAnswer). shown (carried b (own .0) a)) (told-act e) ∙ carried-laid (turnBy (headOf here) own e)
 
-    archived-laid : (a : CardAnswer) → shown (archiving b (own .0) a) ≡ putBack (laid b) (placeIn own) (settled here (laid b .desk) (toArchive (length (b .archive)) own a))
+    -- likewise, and an entry stored
+    archived-laid : (u : Turned) (x : Details) → shown (archiving b (own .0) (record { answer = u .answer; purse = recordAfter here (u .head) (u .log); message = u .message; entry = x })) ≡ putBack (laid b) (placeIn own) (settled here (laid b .desk) (orFull (leb 256 (length (b .archive))) u) (change.Store (record { by = own; details = x })))
     unfolding settled carriedOut stored
-    archived-laid a =
+    archived-laid u x =
+        let e : Entry = record { by = own; details = x } in
+        let q : Purse = recordAfter here (u .head) (u .log) in
         ⊎-elim
-        (λ (k : eqb (a .answer) 0 ≡ true).
+        (λ (k : eqb (u .answer) 0 ≡ true).
         ⊎-elim
         (λ (r : leb 256 (length (b .archive)) ≡ true). rw (k, r) (stays (laid b) 15 (placeIn own)))
         (λ (r : leb 256 (length (b .archive)) ≡ false).
-        let e : Entry = record { by = own; details = a .entry } in
-        let u : length (b .archive) < 256 = leb-false _ _ r in
-        let l : set (padded 32 zeroPurse (b .purses)) (own .0) (a .purse) ≡ padded 32 zeroPurse (set (b .purses) (own .0) (a .purse)) = set-padded 32 zeroPurse (b .purses) (own .0) (a .purse) h in
-        let j : set (padded 32 zeroPurse (b .purses)) (placeIn own) (a .purse) ≡ padded 32 zeroPurse (set (b .purses) (own .0) (a .purse)) = ap (λ (i : ℕ). set (padded 32 zeroPurse (b .purses)) i (a .purse)) (place-in b t own h) ∙ l in
-        let n : length (set (b .purses) (own .0) (a .purse)) ≡ length (b .purses) = length-set (b .purses) (own .0) (a .purse) in
-        let s : set (padded 256 zeroEntry (b .archive)) (length (b .archive)) e ≡ padded 256 zeroEntry (b .archive ++ (e ∷ [])) = push-padded 256 zeroEntry (b .archive) e u in
+        let f : length (b .archive) < 256 = leb-false _ _ r in
+        let l : set (padded 32 zeroPurse (b .purses)) (own .0) q ≡ padded 32 zeroPurse (set (b .purses) (own .0) q) = set-padded 32 zeroPurse (b .purses) (own .0) q h in
+        let j : set (padded 32 zeroPurse (b .purses)) (placeIn own) q ≡ padded 32 zeroPurse (set (b .purses) (own .0) q) = ap (λ (i : ℕ). set (padded 32 zeroPurse (b .purses)) i q) (place-in b t own h) ∙ l in
+        let n : length (set (b .purses) (own .0) q) ≡ length (b .purses) = length-set (b .purses) (own .0) q in
+        let s : set (padded 256 zeroEntry (b .archive)) (length (b .archive)) e ≡ padded 256 zeroEntry (b .archive ++ (e ∷ [])) = push-padded 256 zeroEntry (b .archive) e f in
         let c : length (b .archive ++ (e ∷ [])) ≡ length (b .archive) + 1 = length-append (b .archive) (e ∷ []) in
-        rw (k, r, lt-ltb _ _ u)
+        rw (k, r, lt-ltb _ _ f)
         (λ i. record {
           answer = 0;
           held =
@@ -152,16 +161,23 @@ module _ (b : Bench) (t : Table b) (own : Name) where
               };
         }))
         (which (leb 256 (length (b .archive)))))
-        (λ (k : eqb (a .answer) 0 ≡ false). rw (k, k) (stays (laid b) (a .answer) (placeIn own)))
-        (which (eqb (a .answer) 0))
+        (λ (k : eqb (u .answer) 0 ≡ false). rw (k, k) (stays (laid b) (u .answer) (placeIn own)))
+        (which (eqb (u .answer) 0))
 
-    collected-laid : shown (archiving b (own .0) (told b (own .0) card.Collect)) ≡ putBack (laid b) (placeIn own) (settled here (laid b .desk) (toArchive (length (b .archive)) own (actBy here own card.Collect)))
-    collected-laid =
-        archived-laid (told b (own .0) card.Collect)
-        ∙ ap (λ (a : CardAnswer). putBack (laid b) (placeIn own) (settled here (laid b .desk) (toArchive (length (b .archive)) own a))) (told-act card.Collect)
+    -- a collect that is done hands out the oldest entry; one that is refused stores nothing
+    collected-act : shown (archiving b (own .0) (actBy here own card.Collect)) ≡ putBack (laid b) (placeIn own) (answeredOn here (laid b .desk) (asks.Collect own (leb 256 (length (b .archive)))))
+    unfolding settled toldAt changeOf turnCollect
+    collected-act =
+        ⊎-elim
+        (λ (z : eqb (collectNumber (headOf here) own) 0 ≡ true). rw z (archived-laid (takenAt (headOf here)) (getD (here .log) 0 zeroDetails)))
+        (λ (z : eqb (collectNumber (headOf here) own) 0 ≡ false). rw (z, z, z) (stays (laid b) (collectNumber (headOf here) own) (placeIn own)))
+        (which (eqb (collectNumber (headOf here) own) 0))
 
-  starts : (other : Name) (e : CardEvent) → shown (starting b (own .0) (other .0) e) ≡ putBack (laid b) (placeIn own) (settled here (laid b .desk) (toTell (first (startTests (length (b .purses)) own other)) here own e))
-  unfolding settled toTell
+    collected-laid : shown (archiving b (own .0) (told b (own .0) card.Collect)) ≡ putBack (laid b) (placeIn own) (answeredOn here (laid b .desk) (asks.Collect own (leb 256 (length (b .archive)))))
+    collected-laid = ap (λ (a : CardAnswer). shown (archiving b (own .0) a)) (told-act card.Collect) ∙ collected-act
+
+  starts : (other : Name) (e : CardEvent) → shown (starting b (own .0) (other .0) e) ≡ putBack (laid b) (placeIn own) (answeredOn here (laid b .desk) (toTell (first (startTests (length (b .purses)) own other)) own e))
+  unfolding settled toldAt toTell
   starts other e =
       ⊎-elim
       (λ (w : leb (length (b .purses)) (own .0) ≡ true). rw w (stays (laid b) 4 (placeIn own)))
@@ -173,8 +189,8 @@ module _ (b : Bench) (t : Table b) (own : Name) where
       (which (leb (length (b .purses)) (other .0)))))
       (which (leb (length (b .purses)) (own .0)))
 
-  delivers : (i : ℕ) → shown (delivering b (own .0) i) ≡ putBack (laid b) (placeIn own) (settled here (laid b .desk) (toTell (first (deliverTests (length (b .purses)) (length (b .messages)) own i)) here own (card.Deliver (getD (laid b .desk .ether .places) i zeroMessage))))
-  unfolding settled toTell
+  delivers : (i : ℕ) → shown (delivering b (own .0) i) ≡ putBack (laid b) (placeIn own) (answeredOn here (laid b .desk) (toTell (first (deliverTests (length (b .purses)) (length (b .messages)) own i)) own (card.Deliver (getD (laid b .desk .ether .places) i zeroMessage))))
+  unfolding settled toldAt toTell
   delivers i =
       ⊎-elim
       (λ (w : leb (length (b .purses)) (own .0) ≡ true). rw w (stays (laid b) 4 (placeIn own)))
@@ -188,24 +204,24 @@ module _ (b : Bench) (t : Table b) (own : Name) where
       (which (leb (length (b .messages)) i))))
       (which (leb (length (b .purses)) (own .0)))
 
-  aborts : shown (aborting b (own .0)) ≡ putBack (laid b) (placeIn own) (settled here (laid b .desk) (toTell (first (purseTests (length (b .purses)) own)) here own card.Abort))
-  unfolding settled toTell
+  aborts : shown (aborting b (own .0)) ≡ putBack (laid b) (placeIn own) (answeredOn here (laid b .desk) (toTell (first (purseTests (length (b .purses)) own)) own card.Abort))
+  unfolding settled toldAt toTell
   aborts =
       ⊎-elim
       (λ (w : leb (length (b .purses)) (own .0) ≡ true). rw w (stays (laid b) 4 (placeIn own)))
       (λ (w : leb (length (b .purses)) (own .0) ≡ false). rw w (told-laid (leb-false _ _ w) card.Abort))
       (which (leb (length (b .purses)) (own .0)))
 
-  collects : shown (collecting b (own .0)) ≡ putBack (laid b) (placeIn own) (settled here (laid b .desk) (toCollect (first (purseTests (length (b .purses)) own)) here (length (b .archive)) own))
-  unfolding settled toCollect
+  collects : shown (collecting b (own .0)) ≡ putBack (laid b) (placeIn own) (answeredOn here (laid b .desk) (toCollect (first (purseTests (length (b .purses)) own)) own (length (b .archive))))
+  unfolding settled toldAt toCollect
   collects =
       ⊎-elim
       (λ (w : leb (length (b .purses)) (own .0) ≡ true). rw w (stays (laid b) 4 (placeIn own)))
       (λ (w : leb (length (b .purses)) (own .0) ≡ false). rw w (collected-laid (leb-false _ _ w)))
       (which (leb (length (b .purses)) (own .0)))
 
-loses : (b : Bench) (t : Table b) (i : ℕ) → shown (losing b i) ≡ putBack (laid b) 0 (settled (getD (laid b .table) 0 zeroPurse) (laid b .desk) (record { answer = first (loseTests (length (b .messages)) i); purse = getD (laid b .table) 0 zeroPurse; change = change.Lose i }))
-unfolding settled carriedOut takenOut
+loses : (b : Bench) (t : Table b) (i : ℕ) → shown (losing b i) ≡ putBack (laid b) 0 (answeredOn (getD (laid b .table) 0 zeroPurse) (laid b .desk) (toLose (first (loseTests (length (b .messages)) i)) i))
+unfolding settled toldAt changeOf toLose carriedOut takenOut
 loses b t i =
     ⊎-elim
     (λ (w : leb (length (b .messages)) i ≡ true). rw w (stays (laid b) 5 0))
@@ -231,7 +247,7 @@ loses b t i =
     (which (leb (length (b .messages)) i))
 
 acts : (b : Bench) (t : Table b) (e : Event) → shown (acting b e) ≡ byRecord (laid b) e
-unfolding acting byRecord actOn settled chosen deliveredAt placeOf
+unfolding acting byRecord actOn settled toldAt asked deliveredAt placeOf
 acts b t Malformed = stays (laid b) 3 0
 acts b t (StartFrom own other s a) = starts b t own other (card.StartFrom other s a)
 acts b t (StartTo own other s a) = starts b t own other (card.StartTo other s a)

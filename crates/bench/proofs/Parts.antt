@@ -1,6 +1,7 @@
--- One event of a run, where the table, the ether and the archive are kept apart: what is chosen at the record that the event names and
--- what is seen of the desk, done at those parts, is the step of the whole (`byRecord`).
--- Why: `byRecord` is what is chosen, settled and put back; a refusal puts back the record that was read, and each change touches one part.
+-- One event of a run, where the table, the ether and the archive are kept apart: what the card made of the head of the record that the
+-- event names, settled at those parts, is the step of the whole (`byRecord`).
+-- Why: `byRecord` is what is asked, told, settled and put back; a refusal puts back the record that was read, and each change touches one
+-- part.
 -- Assumes nothing.
 use Prim.Native.Nat.{ℕ}
 use mathlib.Core.Path.{_≡_}
@@ -26,9 +27,13 @@ use Rattle.desk.specs.Desk.{added, takenOut, stored}
 use Rattle.rules.specs.declared.Event.{Event}
 use Rattle.rules.specs.Laid.{seen, isZeroPurse, isZeroMessage, isZeroEntry, placesOk, heldOk}
 use Rattle.rules.specs.Table.{tableOk}
-use Rattle.bench.specs.declared.Chosen.{Chosen}
+use Rattle.refusals.specs.Heads.{headOf}
+use Rattle.card.specs.declared.Turned.{Turned}
+use Rattle.card.specs.Act.{recordAfter}
+use Rattle.bench.specs.declared.Asked.{Asked}
+use Rattle.bench.specs.declared.Change.{Change}
 use Rattle.bench.specs.declared.Change.the-variants as change
-use Rattle.bench.specs.Acts.{placeOf, deliveredAt, chosen, withEther, withArchive, carriedOut, settled, actOn, putBack, byRecord}
+use Rattle.bench.specs.Acts.{placeOf, deliveredAt, asked, toldAt, changeOf, withEther, withArchive, carriedOut, settled, actOn, putBack, byRecord}
 use Rattle.bench.proofs.ByRecord.{stays}
 
 -- what a bench holds, of its parts
@@ -52,32 +57,36 @@ long-parts h w =
       long isZeroMessage 256 (h .desk .ether .count) (h .desk .ether .places) (and-r ps ms both),
     )
 
-module _ (h : Held) (k : ℕ) (c : Chosen) where
-  -- what is chosen at the record in place k, settled and put back
+module _ (h : Held) (k : ℕ) (t : Turned) (c : Change) where
+  -- the record in place k
+  abbrev here : Purse
+  here = getD (h .table) k zeroPurse
+
+  -- what the card made of it, settled and put back
   abbrev pub settledAt : Answered
-  settledAt = putBack h k (settled (getD (h .table) k zeroPurse) (h .desk) c)
+  settledAt = putBack h k (settled here (h .desk) t c)
 
-  pub by-chosen : (v : Event) (p : Purse) (m : Message) → k ≡ placeOf v → p ≡ getD (h .table) k zeroPurse → m ≡ getD (h .desk .ether .places) (deliveredAt v) zeroMessage → c ≡ chosen p (record { purses = h .desk .purses; messages = h .desk .ether .count; entries = h .desk .archive .count; message = m }) v → settledAt ≡ byRecord h v
+  pub by-asked : (v : Event) (p : Purse) (m : Message) (a : Asked) → k ≡ placeOf v → p ≡ here → m ≡ getD (h .desk .ether .places) (deliveredAt v) zeroMessage → a ≡ asked (record { purses = h .desk .purses; messages = h .desk .ether .count; entries = h .desk .archive .count; message = m }) v → t ≡ toldAt (headOf p) a → c ≡ changeOf p a (t .message) → settledAt ≡ byRecord h v
   unfolding byRecord actOn
-  by-chosen v p m place read message choice = rw (choice, message, read, place)
+  by-asked v p m a place read message ask told change = rw (change, told, ask, message, read, place)
 
-  pub when-refused : (c .answer ≡ 0 → ⊥) → record { answer = c .answer; held = h } ≡ settledAt
+  pub when-refused : (t .answer ≡ 0 → ⊥) → record { answer = t .answer; held = h } ≡ settledAt
   unfolding settled
-  when-refused z = rw (ne-eqb (c .answer) 0 z) (stays h (c .answer) k)
+  when-refused z = rw (ne-eqb (t .answer) 0 z) (stays h (t .answer) k)
 
-  module _ (z : c .answer ≡ 0) where
-    pub when-nothing : c .change ≡ change.Nothing → record { answer = c .answer; held = record { table = set (h .table) k (c .purse); desk = h .desk } } ≡ settledAt
+  module _ (z : t .answer ≡ 0) (q : Purse) (r : q ≡ recordAfter here (t .head) (t .log)) where
+    pub when-nothing : c ≡ change.Nothing → record { answer = t .answer; held = record { table = set (h .table) k q; desk = h .desk } } ≡ settledAt
     unfolding settled carriedOut
-    when-nothing e = rw (eq-eqb (c .answer) 0 z, e, z)
+    when-nothing e = rw (eq-eqb (t .answer) 0 z, e, z, r)
 
-    pub when-sent : (m : Message) (x : Changed) (n : ℕ) → c .change ≡ change.Send m → x ≡ added (h .desk .ether) m → n ≡ after 0 (x .lost) 1 → record { answer = n; held = record { table = set (h .table) k (c .purse); desk = withEther (h .desk) (x .ether) } } ≡ settledAt
+    pub when-sent : (m : Message) (x : Changed) (n : ℕ) → c ≡ change.Send m → x ≡ added (h .desk .ether) m → n ≡ after 0 (x .lost) 1 → record { answer = n; held = record { table = set (h .table) k q; desk = withEther (h .desk) (x .ether) } } ≡ settledAt
     unfolding settled carriedOut
-    when-sent m x n e s t = rw (eq-eqb (c .answer) 0 z, e, t, s)
+    when-sent m x n e s f = rw (eq-eqb (t .answer) 0 z, e, f, s, r)
 
-    pub when-lost : (i : ℕ) (x : Changed) → c .change ≡ change.Lose i → x ≡ takenOut (h .desk .ether) i → record { answer = c .answer; held = record { table = set (h .table) k (c .purse); desk = withEther (h .desk) (x .ether) } } ≡ settledAt
+    pub when-lost : (i : ℕ) (x : Changed) → c ≡ change.Lose i → x ≡ takenOut (h .desk .ether) i → record { answer = t .answer; held = record { table = set (h .table) k q; desk = withEther (h .desk) (x .ether) } } ≡ settledAt
     unfolding settled carriedOut
-    when-lost i x e s = rw (eq-eqb (c .answer) 0 z, e, z, s)
+    when-lost i x e s = rw (eq-eqb (t .answer) 0 z, e, z, s, r)
 
-    pub when-stored : (y : Entry) (a : Archive) → c .change ≡ change.Store y → a ≡ stored (h .desk .archive) y → record { answer = c .answer; held = record { table = set (h .table) k (c .purse); desk = withArchive (h .desk) a } } ≡ settledAt
+    pub when-stored : (y : Entry) (a : Archive) → c ≡ change.Store y → a ≡ stored (h .desk .archive) y → record { answer = t .answer; held = record { table = set (h .table) k q; desk = withArchive (h .desk) a } } ≡ settledAt
     unfolding settled carriedOut
-    when-stored y a e s = rw (eq-eqb (c .answer) 0 z, e, z, s)
+    when-stored y a e s = rw (eq-eqb (t .answer) 0 z, e, z, s, r)

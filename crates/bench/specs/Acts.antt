@@ -1,6 +1,6 @@
--- What an event does, at a table that is well formed: it touches the desk and the one record that it names. First it is chosen what is to
--- be done (`chosen`), from the record and a few things that are seen of the desk; then that is done (`settled`). The tests stand in document
--- 01's order for each kind; those that read one purse alone are the card's, behind them. That this is the bench's step is `step-by-record`.
+-- What an event does, at a table that is well formed: it touches the desk and the one record that it names. The tests that read the desk
+-- come first, in document 01's order for each kind (`asked`); those that read one purse alone are the card's, behind them (`toldAt`, at the
+-- head of the record); then it is settled (`settled`). That this is the bench's step is `step-by-record`.
 use Prim.Native.Nat.{ℕ}
 use mathlib.Core.Bool.{Bool, cond}
 use mathlib.Core.List.{List, [], _∷_}
@@ -9,13 +9,16 @@ use lib.Dec.{leb, eqb}
 use Rattle.purse.specs.declared.Name.{Name}
 use Rattle.purse.specs.declared.Message.{Message}
 use Rattle.purse.specs.declared.Purse.{Purse}
-use Rattle.purse.specs.declared.CardAnswer.{CardAnswer}
 use Rattle.purse.specs.declared.CardEvent.{CardEvent}
 use Rattle.purse.specs.declared.CardEvent.the-variants as card
 use Rattle.purse.specs.Tests.{Test, _⇒_, first, after}
-use Rattle.purse.specs.Details.{lastName, zeroMessage}
+use Rattle.purse.specs.Details.{lastName, zeroDetails, zeroMessage}
 use Rattle.purse.specs.Purse.{zeroPurse}
-use Rattle.refusals.specs.Act.{actBy}
+use Rattle.refusals.specs.declared.Head.{Head}
+use Rattle.refusals.specs.Heads.{headOf}
+use Rattle.card.specs.declared.Turned.{Turned}
+use Rattle.card.specs.Act.{refusedAt, turnBy, recordAfter}
+use Rattle.desk.specs.declared.Entry.{Entry}
 use Rattle.desk.specs.declared.Ether.{Ether}
 use Rattle.desk.specs.declared.Archive.{Archive}
 use Rattle.desk.specs.declared.Desk.{Desk}
@@ -27,7 +30,8 @@ use Rattle.rules.specs.declared.Event.the-variants.{Malformed, StartFrom, Start
 use Rattle.bench.specs.declared.Seen.{Seen}
 use Rattle.bench.specs.declared.Change.{Change}
 use Rattle.bench.specs.declared.Change.the-variants as change
-use Rattle.bench.specs.declared.Chosen.{Chosen}
+use Rattle.bench.specs.declared.Asked.{Asked}
+use Rattle.bench.specs.declared.Asked.the-variants as asks
 use Rattle.bench.specs.declared.Acted.{Acted}
 
 -- the place of a name in the table of 32; 0 for a name above 31
@@ -88,45 +92,54 @@ purseTests purses own = (noPurse purses own ⇒ 4) ∷ []
 abbrev pub loseTests : ℕ → ℕ → List Test
 loseTests messages i = (noMessage messages i ⇒ 5) ∷ []
 
--- refused, with that number
-abbrev pub refusedAs : ℕ → Purse → Chosen
-refusedAs n p = record { answer = n; purse = p; change = change.Nothing }
+-- the card is told e, where no test before found a number
+unfoldable pub toTell : ℕ → Name → CardEvent → Asked
+toTell n own e = cond (eqb n 0) (asks.Tell own e) (asks.Refused n)
+
+-- the card is told to collect, likewise; the archive is full with 256 entries
+unfoldable pub toCollect : ℕ → Name → ℕ → Asked
+toCollect n own entries = cond (eqb n 0) (asks.Collect own (leb places entries)) (asks.Refused n)
+
+-- the message at a place goes, likewise
+unfoldable pub toLose : ℕ → ℕ → Asked
+toLose n i = cond (eqb n 0) (asks.Lose i) (asks.Refused n)
+
+-- what an event asks for, by what is seen of the desk
+unfoldable pub asked : Seen → Event → Asked
+asked s Malformed = asks.Refused 3
+asked s (StartFrom own other q a) = toTell (first (startTests (s .purses) own other)) own (card.StartFrom other q a)
+asked s (StartTo own other q a) = toTell (first (startTests (s .purses) own other)) own (card.StartTo other q a)
+asked s (Deliver own i) = toTell (first (deliverTests (s .purses) (s .messages) own i)) own (card.Deliver (s .message))
+asked s (Abort own) = toTell (first (purseTests (s .purses) own)) own card.Abort
+asked s (Lose i) = toLose (first (loseTests (s .messages) i)) i
+asked s (Collect own) = toCollect (first (purseTests (s .purses) own)) own (s .entries)
+
+-- 15 where the archive is full, after the card's 14
+abbrev pub orFull : Bool → Turned → Turned
+orFull full t = record { head = t .head; message = t .message; answer = after (t .answer) full 15; log = t .log }
+
+-- the card is told, at the head of its record
+unfoldable pub toldAt : Head → Asked → Turned
+toldAt h (asks.Refused n) = refusedAt n h
+toldAt h (asks.Lose i) = refusedAt 0 h
+toldAt h (asks.Tell own e) = turnBy h own e
+toldAt h (asks.Collect own full) = orFull full (turnBy h own card.Collect)
 
 -- the card's message is to be sent; kind 0 is no message: nothing is sent
 unfoldable pub toSend : Message → Change
 toSend m = cond (eqb (m .kind) 0) change.Nothing (change.Send m)
 
--- what the card answered
-abbrev pub toCarry : CardAnswer → Chosen
-toCarry a = record { answer = a .answer; purse = a .purse; change = toSend (a .message) }
+-- the oldest log entry of the record p, as the archive keeps it
+abbrev pub entryOf : Purse → Name → Entry
+entryOf p own = record { by = own; details = getD (p .log) 0 zeroDetails }
 
--- the card is told e, where no test before found a number
-unfoldable pub toTell : ℕ → Purse → Name → CardEvent → Chosen
-toTell n p own e = cond (eqb n 0) (toCarry (actBy p own e)) (refusedAs n p)
-
--- the entry that the card gave out "is appended to the archive"; 15 where it is full, after the card's 14
-abbrev pub toArchive : ℕ → Name → CardAnswer → Chosen
-toArchive entries own a =
-    record {
-      answer = after (a .answer) (leb places entries) 15;
-      purse = a .purse;
-      change = change.Store (record { by = own; details = a .entry });
-    }
-
--- the card is told to collect, likewise
-unfoldable pub toCollect : ℕ → Purse → ℕ → Name → Chosen
-toCollect n p entries own = cond (eqb n 0) (toArchive entries own (actBy p own card.Collect)) (refusedAs n p)
-
--- what an event chooses at its record p and what is seen of the desk
-unfoldable pub chosen : Purse → Seen → Event → Chosen
-chosen p s Malformed = refusedAs 3 p
-chosen p s (StartFrom own other q a) = toTell (first (startTests (s .purses) own other)) p own (card.StartFrom other q a)
-chosen p s (StartTo own other q a) = toTell (first (startTests (s .purses) own other)) p own (card.StartTo other q a)
-chosen p s (Deliver own i) =
-    toTell (first (deliverTests (s .purses) (s .messages) own i)) p own (card.Deliver (s .message))
-chosen p s (Abort own) = toTell (first (purseTests (s .purses) own)) p own card.Abort
-chosen p s (Lose i) = record { answer = first (loseTests (s .messages) i); purse = p; change = change.Lose i }
-chosen p s (Collect own) = toCollect (first (purseTests (s .purses) own)) p (s .entries) own
+-- what is changed at the desk, p being the record before the step and m the message that the card handed out; the entry that leaves the
+-- log "is appended to the archive"
+unfoldable pub changeOf : Purse → Asked → Message → Change
+changeOf p (asks.Refused n) m = change.Nothing
+changeOf p (asks.Lose i) m = change.Lose i
+changeOf p (asks.Tell own e) m = toSend m
+changeOf p (asks.Collect own full) m = change.Store (entryOf p own)
 
 abbrev pub withEther : Desk → Ether → Desk
 withEther d e = record { purses = d .purses; ether = e; archive = d .archive }
@@ -151,13 +164,18 @@ carriedOut q d (change.Store e) = record { answer = 0; purse = q; desk = withArc
 abbrev pub refusedOn : ℕ → Purse → Desk → Acted
 refusedOn n p d = record { answer = n; purse = p; desk = d }
 
--- what is chosen is done where its number is 0
-unfoldable pub settled : Purse → Desk → Chosen → Acted
-settled p d c = cond (eqb (c .answer) 0) (carriedOut (c .purse) d (c .change)) (refusedOn (c .answer) p d)
+-- what the card did is settled where its number is 0: the record is put together, and the change made
+unfoldable pub settled : Purse → Desk → Turned → Change → Acted
+settled p d t c =
+    cond (eqb (t .answer) 0) (carriedOut (recordAfter p (t .head) (t .log)) d c) (refusedOn (t .answer) p d)
+
+-- what is asked for, told and settled
+abbrev pub answeredOn : Purse → Desk → Asked → Acted
+answeredOn p d a = settled p d (toldAt (headOf p) a) (changeOf p a (toldAt (headOf p) a .message))
 
 -- the step of an event at its record p and the desk
 unfoldable pub actOn : Purse → Desk → Event → Acted
-actOn p d e = settled p d (chosen p (seenAt d (deliveredAt e)) e)
+actOn p d e = answeredOn p d (asked (seenAt d (deliveredAt e)) e)
 
 -- the record put back at its place of the table, the desk beside it
 abbrev pub putBack : Held → ℕ → Acted → Answered

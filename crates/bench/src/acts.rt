@@ -1,24 +1,27 @@
-// What an event does at the record that it names and the desk, where the table is well formed. First it is chosen: the tests that read
-// the desk stand here, in document 01's order; the others are the card's. Then what is chosen is done.
+// What an event does at the record that it names and the desk, where the table is well formed: the tests that read the desk come first,
+// in document 01's order; then the card is told, at the head of the record; then it is settled.
 use crate::Acted;
+use crate::Asked;
 use crate::Change;
-use crate::Chosen;
 use crate::Seen;
+use card::LogChange;
+use card::Turned;
 use desk::Desk;
 use desk::Entry;
 use desk::Ether;
-use purse::CardAnswer;
 use purse::CardEvent;
 use purse::Message;
 use purse::Name;
 use purse::Purse;
 use purse::tested;
+use refusals::Head;
 use rules::Event;
 ghost use mathlib.Core.Path.{_≡_};
 ghost use lib.ListN.{getD};
 ghost use Rattle.purse.specs.Tests.{first};
 ghost use Rattle.purse.specs.Details.{zeroMessage};
-ghost use Rattle.bench.specs.Acts.{placeIn, placeOf, deliveredAt, startTests, deliverTests, purseTests, loseTests, toSend, toTell, toArchive, toCollect, chosen, carriedOut, settled, actOn};
+ghost use Rattle.card.specs.Act.{refusedAt, turnBy};
+ghost use Rattle.bench.specs.Acts.{placeIn, placeOf, deliveredAt, startTests, deliverTests, purseTests, loseTests, toTell, toCollect, toLose, asked, orFull, toldAt, toSend, entryOf, changeOf, carriedOut, settled, actOn};
 
 // The place of a name in the table of 32; 0 for a name above 31.
 fn place_in(name: Name) -> usize
@@ -112,6 +115,114 @@ fn wide(count: u16) -> u32
     count as u32
 }
 
+// The card is told, where no test before found a number.
+fn telling(n: u8, own: Name, event: CardEvent) -> Asked
+    ensures { λ r. ⌜ r ≡ toTell n own event ⌝ }
+{
+    if n == 0 {
+        Asked::Tell { own, event }
+    } else {
+        Asked::Refused(n)
+    }
+}
+
+// The card is told to collect, likewise; the archive is full with 256 entries.
+fn collecting(n: u8, own: Name, entries: u16) -> Asked
+    ensures { λ r. ⌜ r ≡ toCollect n own entries ⌝ }
+{
+    if n == 0 {
+        let full = 256 <= entries;
+        Asked::Collect { own, full }
+    } else {
+        Asked::Refused(n)
+    }
+}
+
+// The message at a place goes, likewise.
+fn losing(n: u8, place: u32) -> Asked
+    ensures { λ r. ⌜ r ≡ toLose n place ⌝ }
+{
+    if n == 0 {
+        Asked::Lose(place)
+    } else {
+        Asked::Refused(n)
+    }
+}
+
+// What an event asks for, by what is seen of the desk.
+pub fn ask(seen: Seen, event: Event) -> Asked
+    ensures { λ r. ⌜ r ≡ asked seen event ⌝ }
+{
+    match event {
+        Event::Malformed => Asked::Refused(3),
+        Event::StartFrom {
+            purse,
+            other,
+            seq,
+            amount,
+        } => {
+            let n = start_number(seen.purses, purse, other);
+            telling(n, purse, CardEvent::StartFrom { other, seq, amount })
+        }
+        Event::StartTo {
+            purse,
+            other,
+            seq,
+            amount,
+        } => {
+            let n = start_number(seen.purses, purse, other);
+            telling(n, purse, CardEvent::StartTo { other, seq, amount })
+        }
+        Event::Deliver { purse, place } => {
+            let n = deliver_number(seen.purses, seen.messages, purse, place);
+            let m = seen.message;
+            telling(n, purse, CardEvent::Deliver(m))
+        }
+        Event::Abort { purse } => {
+            let n = purse_number(seen.purses, purse);
+            telling(n, purse, CardEvent::Abort)
+        }
+        Event::Lose { place } => losing(lose_number(seen.messages, place), place),
+        Event::Collect { purse } => {
+            let n = purse_number(seen.purses, purse);
+            collecting(n, purse, seen.entries)
+        }
+    }
+}
+
+// The head as it was, the log too, and nothing sent.
+fn left(head: Head, n: u8) -> Turned
+    ensures { λ r. ⌜ r ≡ refusedAt n head ⌝ }
+{
+    Turned {
+        head: head,
+        message: Message::zero(),
+        answer: n,
+        log: LogChange::Nothing,
+    }
+}
+
+// The card collects; 15, where the archive is full, comes after its 14.
+fn collect(head: Head, own: Name, full: bool) -> Turned
+    ensures { λ r. ⌜ r ≡ orFull full (turnBy head own CardEvent.Collect) ⌝ }
+{
+    let mut t = card::turn(head, own, CardEvent::Collect);
+    t.answer = tested(t.answer, full, 15);
+    t
+}
+
+// What is asked for, at the head of the record: the card is told.
+pub fn tell(head: Head, asked: Asked) -> Turned
+    ensures { λ r. ⌜ r ≡ toldAt head asked ⌝ }
+{
+    match asked {
+        Asked::Refused(n) => left(head, n),
+        Asked::Lose(_) => left(head, 0),
+        Asked::Tell { own, event } => card::turn(head, own, event),
+        Asked::Collect { own, full } => collect(head, own, full),
+    }
+}
+
 // The message to send; kind 0 is no message.
 fn sending(m: Message) -> Change
     ensures { λ r. ⌜ r ≡ toSend m ⌝ }
@@ -123,109 +234,26 @@ fn sending(m: Message) -> Change
     }
 }
 
-// The card is told, where no test before found a number.
-fn tell(n: u8, p: Purse, own: Name, event: CardEvent) -> Chosen
-    ensures { λ r. ⌜ r ≡ toTell n p own event ⌝ }
+// The oldest log entry of the record p, as the archive keeps it.
+fn entry_of(p: Purse, own: Name) -> Entry
+    ensures { λ r. ⌜ r ≡ entryOf p own ⌝ }
 {
-    if n == 0 {
-        let a = card::act(p, own, event);
-        let q = a.purse;
-        let m = a.message;
-        let change = sending(m);
-        Chosen {
-            answer: a.answer,
-            purse: q,
-            change: change,
-        }
-    } else {
-        Chosen {
-            answer: n,
-            purse: p,
-            change: Change::Nothing,
-        }
-    }
-}
-
-// The entry that the card gave out goes to the archive; 15 where that is full, after the card's 14.
-fn archive(entries: u16, own: Name, a: CardAnswer) -> Chosen
-    ensures { λ r. ⌜ r ≡ toArchive entries own a ⌝ }
-{
-    let n = tested(a.answer, 256 <= entries, 15);
-    let q = a.purse;
-    let d = a.entry;
-    let entry = Entry {
+    let d = card::oldest(p);
+    Entry {
         by: own,
         details: d,
-    };
-    Chosen {
-        answer: n,
-        purse: q,
-        change: Change::Store(entry),
     }
 }
 
-// The purse's oldest log entry goes to the archive, where no test before found a number.
-fn collect(n: u8, p: Purse, entries: u16, own: Name) -> Chosen
-    ensures { λ r. ⌜ r ≡ toCollect n p entries own ⌝ }
+// What is changed at the desk, p being the record before the step and m the message that the card handed out.
+pub fn change_of(p: Purse, asked: Asked, m: Message) -> Change
+    ensures { λ r. ⌜ r ≡ changeOf p asked m ⌝ }
 {
-    if n == 0 {
-        let a = card::act(p, own, CardEvent::Collect);
-        archive(entries, own, a)
-    } else {
-        Chosen {
-            answer: n,
-            purse: p,
-            change: Change::Nothing,
-        }
-    }
-}
-
-// What an event chooses at its record p and what is seen of the desk.
-pub fn choose(p: Purse, seen: Seen, event: Event) -> Chosen
-    ensures { λ r. ⌜ r ≡ chosen p seen event ⌝ }
-{
-    match event {
-        Event::Malformed => Chosen {
-            answer: 3,
-            purse: p,
-            change: Change::Nothing,
-        },
-        Event::StartFrom {
-            purse,
-            other,
-            seq,
-            amount,
-        } => {
-            let n = start_number(seen.purses, purse, other);
-            tell(n, p, purse, CardEvent::StartFrom { other, seq, amount })
-        }
-        Event::StartTo {
-            purse,
-            other,
-            seq,
-            amount,
-        } => {
-            let n = start_number(seen.purses, purse, other);
-            tell(n, p, purse, CardEvent::StartTo { other, seq, amount })
-        }
-        Event::Deliver { purse, place } => {
-            let n = deliver_number(seen.purses, seen.messages, purse, place);
-            let m = seen.message;
-            tell(n, p, purse, CardEvent::Deliver(m))
-        }
-        Event::Abort { purse } => {
-            let n = purse_number(seen.purses, purse);
-            tell(n, p, purse, CardEvent::Abort)
-        }
-        Event::Lose { place } => Chosen {
-            answer: lose_number(seen.messages, place),
-            purse: p,
-            change: Change::Lose(place),
-        },
-        Event::Collect { purse } => {
-            let n = purse_number(seen.purses, purse);
-            collect(n, p, seen.entries, purse)
-        }
+    match asked {
+        Asked::Refused(_) => Change::Nothing,
+        Asked::Lose(place) => Change::Lose(place),
+        Asked::Tell { own: _, event: _ } => sending(m),
+        Asked::Collect { own, full: _ } => Change::Store(entry_of(p, own)),
     }
 }
 
@@ -240,7 +268,7 @@ fn message_at(ether: Ether, at: usize) -> Message
     }
 }
 
-// A change is made at the desk: answer 1 where the message sent is lost.
+// A change is made at the desk, q being the record's next state: answer 1 where the message sent is lost.
 fn carry_out(q: Purse, desk: Desk, change: Change) -> Acted
     ensures { λ r. ⌜ r ≡ carriedOut q desk change ⌝ }
 {
@@ -289,14 +317,16 @@ fn carry_out(q: Purse, desk: Desk, change: Change) -> Acted
     }
 }
 
-// What is chosen is done where its number is 0; a refusal gives the record p and the desk back.
-fn settle(p: Purse, desk: Desk, c: Chosen) -> Acted
-    ensures { λ r. ⌜ r ≡ settled p desk c ⌝ }
+// What the card did is settled where its number is 0: the record is put together, and the change made. A refusal gives the record and the
+// desk back.
+fn settle(p: Purse, desk: Desk, t: Turned, change: Change) -> Acted
+    ensures { λ r. ⌜ r ≡ settled p desk t change ⌝ }
 {
-    let n = c.answer;
+    let n = t.answer;
     if n == 0 {
-        let q = c.purse;
-        let change = c.change;
+        let head = t.head;
+        let log = t.log;
+        let q = card::record(p, head, log);
         carry_out(q, desk, change)
     } else {
         Acted {
@@ -308,7 +338,7 @@ fn settle(p: Purse, desk: Desk, c: Chosen) -> Acted
 }
 
 // The step of an event at its record p and the desk.
-pub fn act(p: Purse, desk: Desk, event: Event) -> Acted
+pub(crate) fn act(p: Purse, desk: Desk, event: Event) -> Acted
     ensures { λ r. ⌜ r ≡ actOn p desk event ⌝ }
 {
     let m = message_at(desk.ether, delivered_at(event));
@@ -318,6 +348,9 @@ pub fn act(p: Purse, desk: Desk, event: Event) -> Acted
         entries: desk.archive.count,
         message: m,
     };
-    let c = choose(p, seen, event);
-    settle(p, desk, c)
+    let asked = ask(seen, event);
+    let t = tell(Head::of(p), asked);
+    let m = t.message;
+    let change = change_of(p, asked, m);
+    settle(p, desk, t, change)
 }

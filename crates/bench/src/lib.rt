@@ -3,7 +3,9 @@
 use desk::Desk;
 use desk::Entry;
 use desk::Held;
+use purse::CardEvent;
 use purse::Message;
+use purse::Name;
 use purse::Purse;
 
 mod acts; // acts.rt: what an event does at one record and the desk
@@ -12,10 +14,11 @@ mod open; // open.rt: a bench opened
 mod runs; // runs.rt: many events
 mod step; // step.rt: an event at the whole bench
 
-pub use acts::act;
-pub use acts::choose;
+pub use acts::ask;
+pub use acts::change_of;
 pub use acts::delivered_at;
 pub use acts::place_of;
+pub use acts::tell;
 pub use events::decode;
 pub use open::opening;
 pub use runs::run;
@@ -29,19 +32,21 @@ pub struct Seen {
     pub message: Message,
 }
 
+// What an event asks for, behind the tests that read the desk: it is refused; or a message goes; or the card is told something, and its
+// message is sent; or the card is told to collect, and its entry is stored in an archive that may be full.
+pub enum Asked {
+    Refused(u8),
+    Lose(u32),
+    Tell { own: Name, event: CardEvent },
+    Collect { own: Name, full: bool },
+}
+
 // What an event changes at the desk: a message is sent, or the one at a place goes, or an entry is appended to the archive.
 pub enum Change {
     Nothing,
     Send(Message),
     Lose(u32),
     Store(Entry),
-}
-
-// What an event chooses: its number, and the record and the change to be made where the number is 0.
-pub struct Chosen {
-    pub answer: u8,
-    pub purse: Purse,
-    pub change: Change,
 }
 
 // What an event does at the record that it names: the answer, and the record and the desk as they then stand.

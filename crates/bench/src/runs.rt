@@ -2,14 +2,17 @@
 use crate::Change;
 use crate::Ran;
 use crate::Seen;
-use crate::acts::choose;
+use crate::acts::ask;
+use crate::acts::change_of;
 use crate::acts::delivered_at;
 use crate::acts::place_of;
+use crate::acts::tell;
 use crate::events::decode;
 use desk::Desk;
 use desk::Held;
 use purse::Message;
 use purse::tested;
+use refusals::Head;
 ghost use mathlib.Core.Path.{_≡_};
 ghost use mathlib.Core.Bool.{true};
 ghost use mathlib.Core.List.{_++_};
@@ -53,13 +56,17 @@ fn each(held: Held, input: &[u8], answers: &mut [u8], n: usize) -> Held
             entries: archive.count,
             message: m,
         };
-        let c = choose(p, seen, e);
-        let mut answer = c.answer;
+        let asked = ask(seen, e);
+        let t = tell(Head::of(p), asked);
+        let mut answer = t.answer;
         // from 2 up nothing changes
         if answer == 0 {
-            let q = c.purse;
+            let head = t.head;
+            let log = t.log;
+            let m = t.message;
+            let change = change_of(p, asked, m);
+            let q = card::record(p, head, log);
             table[k] = q;
-            let change = c.change;
             match change {
                 Change::Nothing => {}
                 Change::Send(m) => {

@@ -1,1 +1,2 @@
+pub mod ByAct
 pub mod Cases

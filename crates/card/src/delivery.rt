@@ -1,71 +1,70 @@
 // A message delivered: the one that the purse waits for, or refused.
-use super::answers::idle;
-use super::answers::quiet;
-use super::answers::refused;
-use super::answers::sends;
+use super::turns::idle;
+use super::turns::quiet;
+use super::turns::refused;
+use super::turns::sends;
+use crate::LogChange;
+use crate::Turned;
 use purse::Amount;
-use purse::CardAnswer;
 use purse::Message;
 use purse::Name;
-use purse::Purse;
+use refusals::Head;
 use refusals::numbers::deliver_number;
 ghost use mathlib.Core.Path.{_≡_};
 ghost use Prim.Native.Nat.{_+_, _≤_};
-ghost use Rattle.purse.specs.Purse.{ceiling};
-ghost use Rattle.purse.specs.Step.{paid, received, settled};
-ghost use Rattle.refusals.specs.Act.{actDeliver};
+ghost use Rattle.card.specs.Act.{paidAt, receivedAt, settledAt, turnDeliver};
 
 // A request: the balance falls, and the value is sent.
-fn pay(p: Purse) -> CardAnswer
-    requires { ⌜ p .details .amount .0 ≤ p .balance .0 ⌝ }
-    ensures { λ r. ⌜ r ≡ paid p ⌝ }
+fn pay(h: Head) -> Turned
+    requires { ⌜ h .details .amount .0 ≤ h .balance .0 ⌝ }
+    ensures { λ r. ⌜ r ≡ paidAt h ⌝ }
 {
-    let d = p.details;
-    let b = Amount(p.balance.0 - d.amount.0);
+    let d = h.details;
+    let b = Amount(h.balance.0 - d.amount.0);
     let m = Message {
         kind: 2,
         details: d,
     };
-    let mut q = p;
+    let mut q = h;
     q.balance = b;
     q.status = 3;
     sends(q, m)
 }
 
 // A value: the balance rises, and the acknowledge is sent.
-fn receive(p: Purse) -> CardAnswer
-    requires { ⌜ p .balance .0 + p .details .amount .0 ≤ ceiling p ⌝ }
-    ensures { λ r. ⌜ r ≡ received p ⌝ }
+fn receive(h: Head) -> Turned
+    requires { ⌜ h .balance .0 + h .details .amount .0 ≤ h .most ⌝ }
+    ensures { λ r. ⌜ r ≡ receivedAt h ⌝ }
 {
-    let d = p.details;
-    let b = Amount(p.balance.0 + d.amount.0);
+    let d = h.details;
+    let b = Amount(h.balance.0 + d.amount.0);
     let m = Message {
         kind: 3,
         details: d,
     };
-    sends(idle(p, b), m)
+    sends(idle(h, b), m)
 }
 
 // An acknowledge: idle.
-fn settle(p: Purse) -> CardAnswer
-    ensures { λ r. ⌜ r ≡ settled p ⌝ }
+fn settle(h: Head) -> Turned
+    ensures { λ r. ⌜ r ≡ settledAt h ⌝ }
 {
-    quiet(idle(p, p.balance))
+    quiet(idle(h, h.balance), LogChange::Nothing)
 }
 
 // The purse gets a message; one that it does not wait for is refused.
-pub(crate) fn deliver(p: Purse, own: Name, m: Message) -> CardAnswer
-    ensures { λ r. ⌜ r ≡ actDeliver p own m ⌝ }
+pub(crate) fn deliver(h: Head, own: Name, m: Message) -> Turned
+    ensures { λ r. ⌜ r ≡ turnDeliver h own m ⌝ }
 {
-    let n = deliver_number(p, own, m);
+    let n = deliver_number(h, own, m);
     if n == 0 {
         let kind = m.kind;
         match kind {
-            1 => pay(p),
-            2 => receive(p),
-            _ => settle(p),
+            1 => pay(h),
+            2 => receive(h),
+            _ => settle(h),
         }
     } else {
-        refused(p, n)
+        refused(h, n)
     }
 }

@@ -1,29 +1,30 @@
 // The two starts: a purse becomes payer or payee.
-use super::answers::quiet;
-use super::answers::refused;
-use super::answers::sends;
+use super::turns::quiet;
+use super::turns::refused;
+use super::turns::sends;
+use crate::LogChange;
+use crate::Turned;
 use purse::Amount;
-use purse::CardAnswer;
 use purse::Details;
 use purse::Message;
 use purse::Name;
-use purse::Purse;
 use purse::Seq;
+use refusals::Head;
 use refusals::numbers::from_number;
 use refusals::numbers::to_number;
 ghost use mathlib.Core.Path.{_≡_};
-ghost use Rattle.purse.specs.Details.{zeroDetails, request};
+ghost use Rattle.purse.specs.Details.{request};
 ghost use Rattle.purse.specs.Purse.{epv};
-ghost use Rattle.purse.specs.Step.{done, begunWith, fromDetails, toDetails};
-ghost use Rattle.refusals.specs.Act.{actFrom, actTo};
+ghost use Rattle.card.specs.declared.LogChange.the-variants.{Nothing};
+ghost use Rattle.card.specs.Act.{doneAt, begunAt, fromDetails, toDetails, turnFrom, turnTo};
 
 // Busy with a transfer of the purse's next number, which grows by 1.
-fn begun(p: Purse, status: u8, d: Details) -> Purse
-    requires { ⌜ (p .next .0 ≡ 4294967295 → ⊥) ⌝ }
-    ensures { λ r. ⌜ r ≡ begunWith status d p ⌝ }
+fn begun(h: Head, status: u8, d: Details) -> Head
+    requires { ⌜ (h .next .0 ≡ 4294967295 → ⊥) ⌝ }
+    ensures { λ r. ⌜ r ≡ begunAt status d h ⌝ }
 {
-    let n = Seq(p.next.0 + 1);
-    let mut q = p;
+    let n = Seq(h.next.0 + 1);
+    let mut q = h;
     q.next = n;
     q.status = status;
     q.details = d;
@@ -31,10 +32,10 @@ fn begun(p: Purse, status: u8, d: Details) -> Purse
 }
 
 // The details of a payer, with its next number.
-pub(crate) fn from_details(p: Purse, own: Name, other: Name, seq: Seq, amount: Amount) -> Details
-    ensures { λ r. ⌜ r ≡ fromDetails p own other seq amount ⌝ }
+pub(crate) fn from_details(h: Head, own: Name, other: Name, seq: Seq, amount: Amount) -> Details
+    ensures { λ r. ⌜ r ≡ fromDetails h own other seq amount ⌝ }
 {
-    let next = p.next;
+    let next = h.next;
     Details {
         payer: own,
         payerseq: next,
@@ -45,10 +46,10 @@ pub(crate) fn from_details(p: Purse, own: Name, other: Name, seq: Seq, amount: A
 }
 
 // The details of a payee, with its next number.
-pub(crate) fn to_details(p: Purse, own: Name, other: Name, seq: Seq, amount: Amount) -> Details
-    ensures { λ r. ⌜ r ≡ toDetails p own other seq amount ⌝ }
+pub(crate) fn to_details(h: Head, own: Name, other: Name, seq: Seq, amount: Amount) -> Details
+    ensures { λ r. ⌜ r ≡ toDetails h own other seq amount ⌝ }
 {
-    let next = p.next;
+    let next = h.next;
     Details {
         payer: other,
         payerseq: seq,
@@ -59,37 +60,37 @@ pub(crate) fn to_details(p: Purse, own: Name, other: Name, seq: Seq, amount: Amo
 }
 
 // Busy as the payee, and the request sent.
-fn asks(p: Purse, d: Details) -> CardAnswer
-    requires { ⌜ (p .next .0 ≡ 4294967295 → ⊥) ⌝ }
-    ensures { λ r. ⌜ r ≡ done (begunWith epv d p) (record { kind = request; details = d }) zeroDetails ⌝ }
+fn asks(h: Head, d: Details) -> Turned
+    requires { ⌜ (h .next .0 ≡ 4294967295 → ⊥) ⌝ }
+    ensures { λ r. ⌜ r ≡ doneAt (begunAt epv d h) Nothing (record { kind = request; details = d }) ⌝ }
 {
     let m = Message {
         kind: 1,
         details: d,
     };
-    sends(begun(p, 2, d), m)
+    sends(begun(h, 2, d), m)
 }
 
 // The purse becomes payer; it waits for the request.
-pub(crate) fn start_from(p: Purse, own: Name, other: Name, seq: Seq, amount: Amount) -> CardAnswer
-    ensures { λ r. ⌜ r ≡ actFrom p own other seq amount ⌝ }
+pub(crate) fn start_from(h: Head, own: Name, other: Name, seq: Seq, amount: Amount) -> Turned
+    ensures { λ r. ⌜ r ≡ turnFrom h own other seq amount ⌝ }
 {
-    let n = from_number(p, own, other, amount);
+    let n = from_number(h, own, other, amount);
     if n == 0 {
-        quiet(begun(p, 1, from_details(p, own, other, seq, amount)))
+        quiet(begun(h, 1, from_details(h, own, other, seq, amount)), LogChange::Nothing)
     } else {
-        refused(p, n)
+        refused(h, n)
     }
 }
 
 // The purse becomes payee; it sends the request and waits for the value.
-pub(crate) fn start_to(p: Purse, own: Name, other: Name, seq: Seq, amount: Amount) -> CardAnswer
-    ensures { λ r. ⌜ r ≡ actTo p own other seq amount ⌝ }
+pub(crate) fn start_to(h: Head, own: Name, other: Name, seq: Seq, amount: Amount) -> Turned
+    ensures { λ r. ⌜ r ≡ turnTo h own other seq amount ⌝ }
 {
-    let n = to_number(p, own, other, amount);
+    let n = to_number(h, own, other, amount);
     if n == 0 {
-        asks(p, to_details(p, own, other, seq, amount))
+        asks(h, to_details(h, own, other, seq, amount))
     } else {
-        refused(p, n)
+        refused(h, n)
     }
 }

@@ -12,8 +12,9 @@ use Rattle.purse.specs.declared.Message.{Message}
 use Rattle.purse.specs.declared.Purse.{Purse}
 use Rattle.purse.specs.Details.{zeroDetails, sameDetails, named, asPayer, asPayee}
 use Rattle.purse.specs.Purse.{ceiling, idleOk, busyOk}
-use Rattle.purse.specs.Step.{expected}
 use Rattle.purse.proofs.Bools.{which}
+use Rattle.refusals.specs.declared.Head.{Head}
+use Rattle.refusals.specs.Numbers.{expected}
 
 -- at most 7 is below 8
 seven : (n : ℕ) → leb n 7 ≡ ltb n 8
@@ -53,19 +54,19 @@ module _ (own : Name) (p : Purse) where
   at-none a b c d = simp (ne-eqb _ 0 a, ne-eqb _ 1 b, ne-eqb _ 2 c, ne-eqb _ 3 d, and-false, or-false)
 
 -- the message that a purse expects, by its kind
-module _ (p : Purse) (m : Message) where
-  pub of-request : m .kind ≡ 1 → expected p m ≡ (sameDetails (p .details) (m .details) && eqb (p .status) 1)
+module _ (h : Head) (m : Message) where
+  pub of-request : m .kind ≡ 1 → expected h m ≡ (sameDetails (h .details) (m .details) && eqb (h .status) 1)
   unfolding expected
   of-request e = simp (e, and-false, or-false)
 
-  pub of-value : m .kind ≡ 2 → expected p m ≡ (sameDetails (p .details) (m .details) && eqb (p .status) 2)
+  pub of-value : m .kind ≡ 2 → expected h m ≡ (sameDetails (h .details) (m .details) && eqb (h .status) 2)
   unfolding expected
   of-value e = simp (e, and-false, or-false)
 
-  pub of-acknowledge : m .kind ≡ 3 → expected p m ≡ (sameDetails (p .details) (m .details) && eqb (p .status) 3)
+  pub of-acknowledge : m .kind ≡ 3 → expected h m ≡ (sameDetails (h .details) (m .details) && eqb (h .status) 3)
   unfolding expected
   of-acknowledge e = simp (e, and-false, or-false)
 
-  pub of-none : (m .kind ≡ 1 → ⊥) → (m .kind ≡ 2 → ⊥) → (m .kind ≡ 3 → ⊥) → expected p m ≡ false
+  pub of-none : (m .kind ≡ 1 → ⊥) → (m .kind ≡ 2 → ⊥) → (m .kind ≡ 3 → ⊥) → expected h m ≡ false
   unfolding expected
   of-none a b c = simp (ne-eqb _ 1 a, ne-eqb _ 2 b, ne-eqb _ 3 c, and-false, or-false)

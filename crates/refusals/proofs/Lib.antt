@@ -1,3 +1,4 @@
 pub mod Cases
 pub mod Ladders
-pub mod Act
+pub mod Passed
+pub mod SameNumbers

@@ -1,69 +1,19 @@
--- `card::act` meets its contract: event by event, what each step promises. Assumes nothing.
+-- `card::act` meets its contract: the head's turn, put together with the log. Assumes nothing.
 use borrow.Author.Needs.{needs}
 use Rattle.card.proofs.act.Statement.{statement}
 use Rattle.card.proofs.act.Tie as tie
 
-enum-known-event : tie.Need-enum-known-event
-enum-known-event c = search needs
+of-requires : tie.Need-of-requires
+of-requires c κs = search needs
 
-start-from-requires : tie.Need-start-from-requires
-start-from-requires c κs = search needs
+turn-requires : tie.Need-turn-requires
+turn-requires c κs = search needs
 
-enum-known-event-2 : tie.Need-enum-known-event-2
-enum-known-event-2 c = search needs
-
-start-to-requires : tie.Need-start-to-requires
-start-to-requires c κs = search needs
-
-enum-known-event-3 : tie.Need-enum-known-event-3
-enum-known-event-3 c = search needs
-
-deliver-requires : tie.Need-deliver-requires
-deliver-requires c κs = search needs
-
-enum-told : tie.Need-enum-told
-enum-told c = search needs
-
-abort-requires : tie.Need-abort-requires
-abort-requires c κs = search needs
-
-enum-told-2 : tie.Need-enum-told-2
-enum-told-2 c = search needs
-
-collect-requires : tie.Need-collect-requires
-collect-requires c κs = search needs
+answered-requires : tie.Need-answered-requires
+answered-requires c κs = search needs
 
 returns : tie.Need-returns
-returns c = cc
-
-returns-2 : tie.Need-returns-2
-returns-2 c = cc
-
-returns-3 : tie.Need-returns-3
-returns-3 c = cc
-
-returns-4 : tie.Need-returns-4
-returns-4 c = cc
-
-returns-5 : tie.Need-returns-5
-returns-5 c = cc
+returns c = rw (c .answered .ensures, c .before .turn .ensures, c .before .before .of .ensures)
 
 pub act-spec : {M : Type 1} → statement M
-act-spec =
-    tie.close
-    (tie.spec
-    enum-known-event
-    start-from-requires
-    enum-known-event-2
-    start-to-requires
-    enum-known-event-3
-    deliver-requires
-    enum-told
-    abort-requires
-    enum-told-2
-    collect-requires
-    returns
-    returns-2
-    returns-3
-    returns-4
-    returns-5)
+act-spec = tie.close (tie.spec of-requires turn-requires answered-requires returns)

@@ -1,6 +1,6 @@
 -- `card::step` meets its contract: the record's test, then the act (`step-by-act`). Assumes nothing.
 use mathlib.Core.Path.{sym, _∙_}
-use Rattle.refusals.proofs.Act.{step-by-act}
+use Rattle.card.proofs.ByAct.{step-by-act}
 use borrow.Author.Needs.{needs}
 use Rattle.card.proofs.step.Statement.{statement}
 use Rattle.card.proofs.step.Tie as tie

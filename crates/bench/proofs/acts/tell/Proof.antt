@@ -1,24 +1,63 @@
--- `bench::acts::tell` meets its contract: the card's step is what the card promises.
+-- `bench::acts::tell` meets its contract: by what is asked for; the card's turn is what the card promises.
 -- Assumes nothing.
-use Rattle.bench.specs.Acts.{toTell}
-use borrow.Author.Tests.{ne-eqb, eq-eqb}
+use Rattle.bench.specs.Acts.{toldAt}
 use borrow.Author.Needs.{needs}
 use Rattle.bench.proofs.acts.tell.Statement.{statement}
 use Rattle.bench.proofs.acts.tell.Tie as tie
 
-act-requires : tie.Need-act-requires
-act-requires c κs = search needs
+enum-known-asked : tie.Need-enum-known-asked
+enum-known-asked c = search needs
 
-sending-requires : tie.Need-sending-requires
-sending-requires c κs = search needs
+left-requires : tie.Need-left-requires
+left-requires c κs = search needs
+
+enum-told : tie.Need-enum-told
+enum-told c = search needs
+
+left-requires-2 : tie.Need-left-requires-2
+left-requires-2 c κs = search needs
+
+enum-known-asked-2 : tie.Need-enum-known-asked-2
+enum-known-asked-2 c = search needs
+
+turn-requires : tie.Need-turn-requires
+turn-requires c κs = search needs
+
+enum-known-asked-3 : tie.Need-enum-known-asked-3
+enum-known-asked-3 c = search needs
+
+collect-requires : tie.Need-collect-requires
+collect-requires c κs = search needs
 
 returns : tie.Need-returns
-unfolding toTell
-returns c = simp (eq-eqb _ 0 (c .before .before .before .before .if1 .taken), c .sending .ensures, c .before .before .before .act .ensures)
+unfolding toldAt
+returns c = rw (c .left .ensures, c .before .before .asked .given .1)
 
 returns-2 : tie.Need-returns-2
-unfolding toTell
-returns-2 c = simp (ne-eqb _ 0 (c .if1 .left))
+unfolding toldAt
+returns-2 c = rw (c .left2 .ensures, c .before .enum-told .given .1)
+
+returns-3 : tie.Need-returns-3
+unfolding toldAt
+returns-3 c = rw (c .turn .ensures, c .before .before .asked2 .given .1)
+
+returns-4 : tie.Need-returns-4
+unfolding toldAt
+returns-4 c = rw (c .collect .ensures, c .before .before .asked3 .given .1)
 
 pub tell-spec : {M : Type 1} → statement M
-tell-spec = tie.close (tie.spec act-requires sending-requires returns returns-2)
+tell-spec =
+    tie.close
+    (tie.spec
+    enum-known-asked
+    left-requires
+    enum-told
+    left-requires-2
+    enum-known-asked-2
+    turn-requires
+    enum-known-asked-3
+    collect-requires
+    returns
+    returns-2
+    returns-3
+    returns-4)

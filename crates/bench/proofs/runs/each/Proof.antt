@@ -3,9 +3,14 @@
 -- Assumes nothing.
 use Rattle.bench.proofs.Filling.{Going, going-start, going-on, going-end}
 use Rattle.bench.proofs.ByRecord.{place-below}
-use Rattle.bench.proofs.Parts.{bench, long-parts, settledAt, by-chosen, when-refused, when-nothing, when-sent, when-lost, when-stored}
-use Rattle.bench.specs.declared.Chosen.{Chosen}
-use Rattle.bench.specs.Acts.{deliveredAt, byRecord}
+use Rattle.bench.proofs.Parts.{bench, long-parts, settledAt, by-asked, when-refused, when-nothing, when-sent, when-lost, when-stored}
+use Rattle.purse.specs.declared.Purse.{Purse}
+use Rattle.refusals.specs.declared.Head.{Head}
+use Rattle.card.specs.declared.Turned.{Turned}
+use Rattle.card.specs.Act.{recordAfter}
+use Rattle.bench.specs.declared.Asked.{Asked}
+use Rattle.bench.specs.declared.Change.{Change}
+use Rattle.bench.specs.Acts.{deliveredAt, toldAt, changeOf, byRecord}
 use Rattle.purse.proofs.Lists.{at-any}
 use Rattle.purse.specs.Details.{zeroMessage}
 use Rattle.purse.specs.Purse.{zeroPurse}
@@ -76,20 +81,31 @@ element-copy-out-m c = search needs
 zero-requires : tie.Need-zero-requires Inv-loop μ-loop
 zero-requires c κs = search needs
 
-choose-requires : tie.Need-choose-requires Inv-loop μ-loop
-choose-requires c κs = search needs
+ask-requires : tie.Need-ask-requires Inv-loop μ-loop
+ask-requires c κs = search needs
+
+of-requires : tie.Need-of-requires Inv-loop μ-loop
+of-requires c κs = search needs
+
+tell-requires : tie.Need-tell-requires Inv-loop μ-loop
+tell-requires c κs = search needs
+
+change-of-requires : tie.Need-change-of-requires Inv-loop μ-loop
+change-of-requires c κs = search needs
+
+record-requires : tie.Need-record-requires Inv-loop μ-loop
+record-requires c κs = search needs
 
 mul-table : tie.Need-mul-table Inv-loop μ-loop
 mul-table c =
-    let placed = c .before .before .before .before .before .before in
+    let placed = c .before .before .before .before .before .before .before .before .before .before .before in
     let below : placed .place-of .result < 32 = rw (placed .place-of .ensures) (place-below (placed .before .decode .result)) in
-    search needs
+    omega arith
 
 array-set-from-table : tie.Need-array-set-from-table Inv-loop μ-loop
 array-set-from-table c =
-    let placed = c .before .before .before .before .before .before in
-    let below : placed .place-of .result < 32 = rw (placed .place-of .ensures) (place-below (placed .before .decode .result)) in
-    search needs
+    let placed = c .before .before .before .before .before .before .before .before .before .before .before in
+    rw (placed .place-of .ensures) (place-below (placed .before .decode .result))
 
 enum-told : tie.Need-enum-told Inv-loop μ-loop
 enum-told c = search needs
@@ -119,18 +135,27 @@ store-requires : tie.Need-store-requires Inv-loop μ-loop
 store-requires c κs = search needs
 
 slice-write-answers : tie.Need-slice-write-answers Inv-loop μ-loop
-slice-write-answers c = search needs
+slice-write-answers c =
+    let turn = c .before .before .before .before .before .before .before .before .before .before in
+    let at-loop = turn .before in
+    let start = at-loop .before .before .before .before .before .before .before in
+    omega (arith, turn .loop-test .taken, at-loop .loop .inv .said .long, start .pre .2)
 
 add-i : tie.Need-add-i Inv-loop μ-loop
-add-i c = omega (arith, c .before .before .before .before .before .before .before .before .loop-test .taken, c .before .before .before .before .before .before .before .before .before .before .before .before .before .before .before .before .fits .n)
+add-i c =
+    let turn = c .before .before .before .before .before .before .before .before .before .before in
+    let start = turn .before .before .before .before .before .before .before .before in
+    omega (arith, turn .loop-test .taken, start .fits .n)
 
 loop-less : tie.Need-loop-less Inv-loop μ-loop
-loop-less c = search needs
+loop-less c = let turn = c .before .before .before .before .before .before .before .before .before .before in omega (arith, turn .loop-test .taken)
 
 loop-again : tie.Need-loop-again Inv-loop μ-loop
 loop-again c =
-    let chose = c .before in
-    let seen = chose .before in
+    let told = c .before in
+    let headed = told .before in
+    let wants = headed .before in
+    let seen = wants .before in
     let asked = seen .before in
     let placed = asked .before .before in
     let read = placed .before in
@@ -142,7 +167,10 @@ loop-again c =
     let h : Held = bench (at-loop .loop .table) (start .args .held .desk .purses) (at-loop .loop .ether) (at-loop .loop .archive) in
     let v : Event = read .decode .result in
     let k : ℕ = placed .place-of .result in
-    let x : Chosen = chose .choose .result in
+    let p : Purse = getD (h .table) k zeroPurse in
+    let a : Asked = wants .ask .result in
+    let t : Turned = told .tell .result in
+    let x : Change = changeOf p a (t .message) in
     let ok = at-loop .loop .inv .ok in
     let below : k < 32 = rw (placed .place-of .ensures) (place-below v) in
     let inside : k < length (h .table) = omega (arith, below, long-parts h ok .0) in
@@ -156,27 +184,29 @@ loop-again c =
     (seen .if1 .came)
     ∙ ap (λ (j : ℕ). getD (h .desk .ether .places) j zeroMessage) (asked .delivered-at .ensures)
     in
-    let settles : settledAt h k x ≡ byRecord h v =
-    by-chosen h k x v _ (seen .if1 .m) (placed .place-of .ensures) (at-any (h .table) k _ zeroPurse inside) m (chose .choose .ensures)
+    let settles : settledAt h k t x ≡ byRecord h v =
+    by-asked h k t x v _ (seen .if1 .m) a (placed .place-of .ensures) (at-any (h .table) k _ zeroPurse inside) m (wants .ask .ensures)
+    (told .tell .ensures ∙ ap (λ (d : Head). toldAt d a) (headed .of .ensures))
+    (ap (λ (q : Purse). changeOf q a (t .message)) (sym (at-any (h .table) k _ zeroPurse inside)))
     in
-    let a : Answered = record { answer = c .if2 .answer; held = bench (c .if2 .table) (start .args .held .desk .purses) (c .if2 .ether) (c .if2 .archive) } in
-    let done : a ≡ settledAt h k x =
+    let s : Answered = record { answer = c .if2 .answer; held = bench (c .if2 .table) (start .args .held .desk .purses) (c .if2 .ether) (c .if2 .archive) } in
+    let done : s ≡ settledAt h k t x =
     ⊎-elim
-    (λ w. rw (w .4, w .5, w .6, w .7) (when-nothing h k x (omega (arith, w .0 .taken)) (w .3 .given .1)))
+    (λ w. rw (w .7, w .8, w .9, w .10) (when-nothing h k t x (omega (arith, w .0 .taken)) (w .4 .result) (w .4 .ensures ∙ ap (λ (q : Purse). recordAfter q (t .head) (t .log)) (at-any (h .table) k _ zeroPurse inside)) (sym (w .3 .ensures ∙ ap (λ (q : Purse). changeOf q a (t .message)) (at-any (h .table) k _ zeroPurse inside)) ∙ w .6 .given .1)))
     (⊎-elim
-    (λ w. rw (w .8, w .9, w .10, w .11) (when-sent h k x (omega (arith, w .0 .taken)) _ (w .5 .result) _ (w .3 .given .1) (w .5 .ensures) (w .7 .ensures)))
+    (λ w. rw (w .11, w .12, w .13, w .14) (when-sent h k t x (omega (arith, w .0 .taken)) (w .4 .result) (w .4 .ensures ∙ ap (λ (q : Purse). recordAfter q (t .head) (t .log)) (at-any (h .table) k _ zeroPurse inside)) _ (w .8 .result) _ (sym (w .3 .ensures ∙ ap (λ (q : Purse). changeOf q a (t .message)) (at-any (h .table) k _ zeroPurse inside)) ∙ w .6 .given .1) (w .8 .ensures) (w .10 .ensures)))
     (⊎-elim
-    (λ w. rw (w .7, w .8, w .9, w .10) (when-lost h k x (omega (arith, w .0 .taken)) _ (w .5 .result) (w .3 .given .1) (w .5 .ensures)))
+    (λ w. rw (w .10, w .11, w .12, w .13) (when-lost h k t x (omega (arith, w .0 .taken)) (w .4 .result) (w .4 .ensures ∙ ap (λ (q : Purse). recordAfter q (t .head) (t .log)) (at-any (h .table) k _ zeroPurse inside)) _ (w .8 .result) (sym (w .3 .ensures ∙ ap (λ (q : Purse). changeOf q a (t .message)) (at-any (h .table) k _ zeroPurse inside)) ∙ w .6 .given .1) (w .8 .ensures)))
     (⊎-elim
-    (λ w. rw (w .6, w .7, w .8, w .9) (when-stored h k x (omega (arith, w .0 .taken)) _ (w .5 .result) (w .3 .given .1) (w .5 .ensures)))
-    (λ w. rw (w .1, w .2, w .3, w .4) (when-refused h k x (w .0 .left))))))
+    (λ w. rw (w .9, w .10, w .11, w .12) (when-stored h k t x (omega (arith, w .0 .taken)) (w .4 .result) (w .4 .ensures ∙ ap (λ (q : Purse). recordAfter q (t .head) (t .log)) (at-any (h .table) k _ zeroPurse inside)) _ (w .8 .result) (sym (w .3 .ensures ∙ ap (λ (q : Purse). changeOf q a (t .message)) (at-any (h .table) k _ zeroPurse inside)) ∙ w .6 .given .1) (w .8 .ensures)))
+    (λ w. rw (w .1, w .2, w .3, w .4) (when-refused h k t x (w .0 .left))))))
     (c .if2 .came)
     in
     let twelve : 12 * i + 12 - 12 * i ≡ 12 = omega arith in
-    let said : a ≡ byRecord h (decoded (take 12 (drop (12 * i) input))) =
+    let said : s ≡ byRecord h (decoded (take 12 (drop (12 * i) input))) =
     done ∙ (settles ∙ (ap (byRecord h) (read .decode .ensures) ∙ ap (λ (j : ℕ). byRecord h (decoded (take j (drop (12 * i) input)))) twelve))
     in
-    going-on _ h input _ (at-loop .loop .answers) _ i a (turn .loop-test .taken) (start .pre .2) said (at-loop .loop .inv)
+    going-on _ h input _ (at-loop .loop .answers) _ i s (turn .loop-test .taken) (start .pre .2) said (at-loop .loop .inv)
 
 same-length : tie.Need-same-length Inv-loop μ-loop
 same-length c = search needs
@@ -204,7 +234,11 @@ each-spec =
     mul-m
     element-copy-out-m
     zero-requires
-    choose-requires
+    ask-requires
+    of-requires
+    tell-requires
+    change-of-requires
+    record-requires
     mul-table
     array-set-from-table
     enum-told

@@ -1,9 +1,10 @@
--- `card::delivery::deliver` meets its contract: at number 0 the arm of the message's kind is that of `delivered`, and the tests passed leave `pay` and `receive`
--- what they require; else it is refused. Assumes nothing.
+-- `card::delivery::deliver` meets its contract: at number 0 the arm of the message's kind is that of `deliveredAt`, and the tests passed leave `pay` and
+-- `receive` what they require; else it is refused. Assumes nothing.
 use mathlib.Core.Path.{sym, _∙_}
+use Rattle.refusals.specs.Numbers.{deliverNumber}
+use Rattle.refusals.proofs.Passed.{pay-passed, get-passed}
+use Rattle.card.specs.Act.{turnDeliver}
 use Rattle.card.proofs.Cases.{done-at, refused-at, deliver-request, deliver-value, deliver-other}
-use Rattle.refusals.specs.Act.{deliverAct, actDeliver}
-use Rattle.refusals.proofs.Act.{deliver-pay, deliver-get}
 use borrow.Author.Needs.{needs}
 use Rattle.card.proofs.delivery.deliver.Statement.{statement}
 use Rattle.card.proofs.delivery.deliver.Tie as tie
@@ -13,15 +14,15 @@ deliver-number-requires c κs = search needs
 
 pay-requires : tie.Need-pay-requires
 pay-requires c κs =
-    deliver-pay (c .before .before .before .args .p) (c .before .before .before .args .own)
-    (c .before .before .before .args .m) (sym (c .before .before .deliver-number .ensures) ∙ c .before .if1 .taken)
-    (c .match .keys1)
+    let start = c .before .before .before in
+    let h = start .args .h in
+    pay-passed h (start .args .own) (start .args .m) (sym (c .before .before .deliver-number .ensures) ∙ c .before .if1 .taken) (c .match .keys1)
 
 receive-requires : tie.Need-receive-requires
 receive-requires c κs =
-    deliver-get (c .before .before .before .args .p) (c .before .before .before .args .own)
-    (c .before .before .before .args .m) (sym (c .before .before .deliver-number .ensures) ∙ c .before .if1 .taken)
-    (c .match .keys2)
+    let start = c .before .before .before in
+    let h = start .args .h in
+    get-passed h (start .args .own) (start .args .m) (sym (c .before .before .deliver-number .ensures) ∙ c .before .if1 .taken) (c .match .keys2)
 
 settle-requires : tie.Need-settle-requires
 settle-requires c κs = search needs
@@ -30,34 +31,35 @@ refused-requires : tie.Need-refused-requires
 refused-requires c κs = search needs
 
 returns : tie.Need-returns
-unfolding actDeliver
+unfolding turnDeliver
 returns c =
-    c .pay .ensures ∙ sym
-    (deliver-request (c .before .before .before .before .args .p) (c .before .before .before .before .args .m .kind) (c .before .match .keys1))
-    ∙ sym
-    (done-at (c .before .before .before .before .args .p) (deliverAct (c .before .before .before .before .args .p) (c .before .before .before .before .args .own) (c .before .before .before .before .args .m)) _ (c .before .before .before .deliver-number .ensures) (c .before .before .if1 .taken))
+    let start = c .before .before .before .before in
+    let h = start .args .h in
+    c .pay .ensures ∙ sym (deliver-request h (start .args .m .kind) (c .before .match .keys1))
+    ∙ sym (done-at h (deliverNumber h (start .args .own) (start .args .m)) _ (c .before .before .before .deliver-number .ensures) (c .before .before .if1 .taken))
 
 returns-2 : tie.Need-returns-2
-unfolding actDeliver
+unfolding turnDeliver
 returns-2 c =
-    c .receive .ensures ∙ sym
-    (deliver-value (c .before .before .before .before .args .p) (c .before .before .before .before .args .m .kind) (c .before .match .keys2))
-    ∙ sym
-    (done-at (c .before .before .before .before .args .p) (deliverAct (c .before .before .before .before .args .p) (c .before .before .before .before .args .own) (c .before .before .before .before .args .m)) _ (c .before .before .before .deliver-number .ensures) (c .before .before .if1 .taken))
+    let start = c .before .before .before .before in
+    let h = start .args .h in
+    c .receive .ensures ∙ sym (deliver-value h (start .args .m .kind) (c .before .match .keys2))
+    ∙ sym (done-at h (deliverNumber h (start .args .own) (start .args .m)) _ (c .before .before .before .deliver-number .ensures) (c .before .before .if1 .taken))
 
 returns-3 : tie.Need-returns-3
-unfolding actDeliver
+unfolding turnDeliver
 returns-3 c =
-    c .settle .ensures ∙ sym
-    (deliver-other (c .before .before .before .before .args .p) (c .before .before .before .before .args .m .kind) (c .before .match .rest .0 .1) (c .before .match .rest .1))
-    ∙ sym
-    (done-at (c .before .before .before .before .args .p) (deliverAct (c .before .before .before .before .args .p) (c .before .before .before .before .args .own) (c .before .before .before .before .args .m)) _ (c .before .before .before .deliver-number .ensures) (c .before .before .if1 .taken))
+    let start = c .before .before .before .before in
+    let h = start .args .h in
+    c .settle .ensures ∙ sym (deliver-other h (start .args .m .kind) (c .before .match .rest .0 .1) (c .before .match .rest .1))
+    ∙ sym (done-at h (deliverNumber h (start .args .own) (start .args .m)) _ (c .before .before .before .deliver-number .ensures) (c .before .before .if1 .taken))
 
 returns-4 : tie.Need-returns-4
-unfolding actDeliver
+unfolding turnDeliver
 returns-4 c =
-    c .refused .ensures ∙ sym
-    (refused-at (c .before .before .before .args .p) (deliverAct (c .before .before .before .args .p) (c .before .before .before .args .own) (c .before .before .before .args .m)) _ (c .before .before .deliver-number .ensures) (c .before .if1 .left))
+    let start = c .before .before .before in
+    let h = start .args .h in
+    c .refused .ensures ∙ sym (refused-at h (deliverNumber h (start .args .own) (start .args .m)) _ (c .before .before .deliver-number .ensures) (c .before .if1 .left))
 
 pub deliver-spec : {M : Type 1} → statement M
 deliver-spec =

@@ -2,8 +2,7 @@
 use mathlib.Core.Path.{refl}
 use mathlib.Core.Bool.{not}
 use lib.Dec.{ltb}
-use Rattle.purse.specs.Step.{expected}
-use Rattle.refusals.specs.Act.{fits, deliverAct}
+use Rattle.refusals.specs.Numbers.{expected, fits, deliverNumber}
 use Rattle.refusals.proofs.Ladders.{three-walk}
 use borrow.Author.Needs.{needs}
 use Rattle.refusals.proofs.numbers.deliver_number.Statement.{statement}
@@ -25,10 +24,10 @@ tested-requires-3 : tie.Need-tested-requires-3
 tested-requires-3 c κs = search needs
 
 returns : tie.Need-returns
-unfolding deliverAct
+unfolding deliverNumber
 returns c =
     let start = c .before .before .before .before .before .before in
-    let p = start .args .p in
+    let p = start .args .h in
     let m = start .args .m in
     three-walk (ltb 31 (start .args .own .0)) (not (expected p m)) (not (fits p (m .kind))) 4 13 2 refl (c .before .before .before .before .tested .ensures)
     (rw (c .before .before .before .expects .ensures) at (c .before .before .tested2 .ensures)) (rw (c .before .fits2 .ensures) at (c .tested3 .ensures))

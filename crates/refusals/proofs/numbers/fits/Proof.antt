@@ -2,13 +2,10 @@
 use mathlib.Core.Path.{_≡_}
 use native.Mathlib.Omega.{arith}
 use borrow.Author.Tests.{eq-eqb, ne-eqb}
-use Rattle.refusals.specs.Act.{fits}
+use Rattle.refusals.specs.Numbers.{fits}
 use borrow.Author.Needs.{needs}
 use Rattle.refusals.proofs.numbers.fits.Statement.{statement}
 use Rattle.refusals.proofs.numbers.fits.Tie as tie
-
-ceiling-requires : tie.Need-ceiling-requires
-ceiling-requires c κs = search needs
 
 cast-after : tie.Need-cast-after
 cast-after c = search needs
@@ -25,27 +22,26 @@ cast-result c = search needs
 returns : tie.Need-returns
 unfolding fits
 returns c =
-    let start = c .before .before .before .before .before in
+    let start = c .before .before .before .before in
     rw (eq-eqb (start .args .kind) 1 (c .before .before .match .keys1))
 
 returns-2 : tie.Need-returns-2
 unfolding fits
 returns-2 c =
     let start = c .before .before .before .before .before in
-    let two : start .args .kind ≡ 2 = c .before .before .match .keys2 in
-    rw (ne-eqb (start .args .kind) 1 (λ (z : start .args .kind ≡ 1). omega arith), eq-eqb (start .args .kind) 2 two, c .before .before .before .ceiling .ensures)
+    let two : start .args .kind ≡ 2 = c .before .before .before .match .keys2 in
+    rw (ne-eqb (start .args .kind) 1 (λ (z : start .args .kind ≡ 1). omega arith), eq-eqb (start .args .kind) 2 two)
 
 returns-3 : tie.Need-returns-3
 unfolding fits
 returns-3 c =
-    let start = c .before .before .before in
+    let start = c .before .before in
     rw (ne-eqb (start .args .kind) 1 (c .match .rest .0 .1), ne-eqb (start .args .kind) 2 (c .match .rest .1))
 
 pub fits-spec : {M : Type 1} → statement M
 fits-spec =
     tie.close
     (tie.spec
-    ceiling-requires
     cast-after
     cast-after-2
     add-after

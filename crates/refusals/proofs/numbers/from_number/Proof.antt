@@ -1,8 +1,7 @@
--- `card::numbers::from_number` meets its contract: one test more than `start_number` (`more`). Assumes nothing.
+-- `refusals::numbers::from_number` meets its contract: one test more than `start_number` (`more`). Assumes nothing.
 use mathlib.Core.Path.{refl}
 use Rattle.purse.proofs.Tests.{more}
-use Rattle.purse.specs.Step.{startTests}
-use Rattle.refusals.specs.Act.{behind, startAct, fromAct}
+use Rattle.refusals.specs.Numbers.{startTests, startNumber, fromNumber}
 use lib.Dec.{ltb}
 use borrow.Author.Needs.{needs}
 use Rattle.refusals.proofs.numbers.from_number.Statement.{statement}
@@ -15,11 +14,14 @@ tested-requires : tie.Need-tested-requires
 tested-requires c κs = search needs
 
 returns : tie.Need-returns
-unfolding startAct fromAct
+unfolding startNumber fromNumber
 returns c =
+    let start = c .before .before .before .before in
+    let h = start .args .h in
+    let amount = start .args .amount in
     more
-    (behind (startTests (c .before .before .before .before .args .p) (c .before .before .before .before .args .own) (c .before .before .before .before .args .other) (c .before .before .before .before .args .amount)))
-    (ltb (c .before .before .before .before .args .p .balance .0) (c .before .before .before .before .args .amount .0)) 11
+    (startTests h (start .args .own) (start .args .other) amount)
+    (ltb (h .balance .0) (amount .0)) 11
     refl (c .before .before .before .start-number .ensures) (c .tested .ensures)
 
 pub from-number-spec : {M : Type 1} → statement M

@@ -1,20 +1,15 @@
--- `card::numbers::to_number` meets its contract: one test more than `start_number` (`more`); the sum is taken in wider numbers, so it does not wrap. Assumes nothing.
+-- `refusals::numbers::to_number` meets its contract: one test more than `start_number` (`more`); the sum is taken in wider numbers, so it does not wrap. Assumes nothing.
 use mathlib.Core.Path.{refl}
 use Rattle.purse.proofs.Tests.{more}
-use Rattle.purse.specs.Step.{startTests}
-use Rattle.refusals.specs.Act.{behind, startAct, toAct}
+use Rattle.refusals.specs.Numbers.{startTests, startNumber, toNumber}
 use lib.Dec.{ltb}
 use Prim.Native.Nat.{_+_}
-use Rattle.purse.specs.Purse.{ceiling}
 use borrow.Author.Needs.{needs}
 use Rattle.refusals.proofs.numbers.to_number.Statement.{statement}
 use Rattle.refusals.proofs.numbers.to_number.Tie as tie
 
 start-number-requires : tie.Need-start-number-requires
 start-number-requires c κs = search needs
-
-ceiling-requires : tie.Need-ceiling-requires
-ceiling-requires c κs = search needs
 
 cast-most : tie.Need-cast-most
 cast-most c = search needs
@@ -32,20 +27,21 @@ tested-requires : tie.Need-tested-requires
 tested-requires c κs = search needs
 
 returns : tie.Need-returns
-unfolding startAct toAct
+unfolding startNumber toNumber
 returns c =
+    let start = c .before .before .before .before .before in
+    let h = start .args .h in
+    let amount = start .args .amount in
     more
-    (behind (startTests (c .before .before .before .before .before .args .p) (c .before .before .before .before .before .args .own) (c .before .before .before .before .before .args .other) (c .before .before .before .before .before .args .amount)))
-    (ltb (ceiling (c .before .before .before .before .before .args .p)) (c .before .before .before .before .before .args .p .balance .0 + c .before .before .before .before .before .args .amount .0))
-    12 refl (c .before .before .before .before .start-number .ensures)
-    (rw (c .before .before .before .ceiling .ensures) at (c .tested .ensures))
+    (startTests h (start .args .own) (start .args .other) amount)
+    (ltb (h .most) (h .balance .0 + amount .0)) 12
+    refl (c .before .before .before .before .start-number .ensures) (c .tested .ensures)
 
 pub to-number-spec : {M : Type 1} → statement M
 to-number-spec =
     tie.close
     (tie.spec
     start-number-requires
-    ceiling-requires
     cast-most
     cast-after
     cast-after-2
