@@ -1,3 +1,4 @@
 pub mod Cases
+pub mod Parts
 pub mod Ladders
 pub mod Act

@@ -1,1 +1,2 @@
 pub mod Act
+pub mod Form
