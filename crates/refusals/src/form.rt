@@ -143,7 +143,11 @@ fn is_absent(log: [Details; 8], n: usize, d: Details) -> bool
 fn used_places(logged: u8) -> usize
     ensures { λ r. ⌜ r ≡ min logged logPlaces ⌝ }
 {
-    if logged < Purse::LOG_PLACES { logged as usize } else { 8 }
+    if logged < Purse::LOG_PLACES {
+        logged as usize
+    } else {
+        8
+    }
 }
 
 // The used places, each at no place before it; then the others, unused.

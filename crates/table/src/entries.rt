@@ -9,10 +9,6 @@ use purse::Purse;
 use refusals::form::is_entry;
 use refusals::form::is_unused;
 ghost use mathlib.Core.Path.{_≡_};
-ghost use Prim.Native.Nat.{_≤_};
-ghost use lib.ListN.{take};
-ghost use Rattle.purse.specs.Lists.{among};
-ghost use Rattle.desk.specs.Desk.{sameEntry};
 ghost use Rattle.rules.specs.Laid.{isZeroEntry, placesOk};
 ghost use Rattle.table.specs.Records.{entryAlone, entryBeside, collectedOk, entriesOk};
 
@@ -30,22 +26,8 @@ fn entry_beside(p: Purse, e: Entry, purses: u8) -> bool
     entry_alone(e, purses) & is_entry(e.details, e.by, p.next) & !holds(p, e.details)
 }
 
-// Whether one of the first n places is the same.
-fn is_before(archive: Archive, e: Entry, n: usize) -> bool
-    requires { ⌜ n ≤ 256 ⌝ }
-    ensures { λ r. ⌜ r ≡ among sameEntry e (take n (archive .places)) ⌝ }
-{
-    let mut hit = false;
-    let mut j: usize = 0;
-    while j < n {
-        let o = archive.places[j];
-        hit = hit | e.same(o);
-        j += 1;
-    }
-    hit
-}
-
-// Each entry beside the record of its purse, and against those before it that have its key.
+// Each entry beside the record of its purse, and against those before it by its key; all of
+// them are looked through only where the key is found.
 fn collected_ok(table: [Purse; 32], archive: Archive, purses: u8) -> bool
     ensures { λ r. ⌜ r ≡ collectedOk purses table archive ⌝ }
 {
@@ -69,7 +51,14 @@ fn collected_ok(table: [Purse; 32], archive: Archive, purses: u8) -> bool
             hit = hit | (k == keys[s]);
             s += 1;
         }
-        let again = if hit { is_before(archive, e, i) } else { false };
+        let end = if hit { i } else { 0 };
+        let mut again = false;
+        let mut j: usize = 0;
+        while j < end {
+            let o = archive.places[j];
+            again = again | e.same(o);
+            j += 1;
+        }
         if again {
             return false;
         }

@@ -8,10 +8,6 @@ use purse::Purse;
 use refusals::form::is_named;
 use refusals::form::is_unused;
 ghost use mathlib.Core.Path.{_≡_};
-ghost use Prim.Native.Nat.{_≤_};
-ghost use lib.ListN.{take};
-ghost use Rattle.purse.specs.Lists.{among};
-ghost use Rattle.purse.specs.Details.{sameMessage};
 ghost use Rattle.rules.specs.Laid.{isZeroMessage, placesOk};
 ghost use Rattle.table.specs.Records.{messageAlone, payeeOk, payerOk, messageBeside, standingOk, messagesOk};
 
@@ -47,22 +43,8 @@ fn message_beside(payee: Purse, payer: Purse, m: Message, purses: u8) -> bool
     message_alone(m, purses) & payee_ok(payee, m) & payer_ok(payer, m)
 }
 
-// Whether one of the first n places is the same.
-fn is_before(ether: Ether, m: Message, n: usize) -> bool
-    requires { ⌜ n ≤ 256 ⌝ }
-    ensures { λ r. ⌜ r ≡ among sameMessage m (take n (ether .places)) ⌝ }
-{
-    let mut hit = false;
-    let mut j: usize = 0;
-    while j < n {
-        let o = ether.places[j];
-        hit = hit | m.same(o);
-        j += 1;
-    }
-    hit
-}
-
-// Each message beside the records that it names, and against those before it that have its key.
+// Each message beside the records that it names, and against those before it by its key; all of
+// them are looked through only where the key is found.
 fn standing_ok(table: [Purse; 32], ether: Ether, purses: u8) -> bool
     ensures { λ r. ⌜ r ≡ standingOk purses table ether ⌝ }
 {
@@ -88,7 +70,14 @@ fn standing_ok(table: [Purse; 32], ether: Ether, purses: u8) -> bool
             hit = hit | (k == keys[s]);
             s += 1;
         }
-        let again = if hit { is_before(ether, m, i) } else { false };
+        let end = if hit { i } else { 0 };
+        let mut again = false;
+        let mut j: usize = 0;
+        while j < end {
+            let o = ether.places[j];
+            again = again | m.same(o);
+            j += 1;
+        }
         if again {
             return false;
         }
