@@ -14,6 +14,9 @@ use Rattle.purse.specs.declared.Message.{Message}
 use Rattle.purse.specs.declared.Purse.{Purse}
 use Rattle.purse.specs.Details.{zeroMessage}
 use Rattle.purse.proofs.Bools.{which}
+use Rattle.refusals.specs.Heads.{headOf}
+use Rattle.card.specs.declared.Turned.{Turned}
+use Rattle.card.specs.Act.{recordAfter}
 use Rattle.desk.specs.declared.Entry.{Entry}
 use Rattle.desk.specs.declared.Desk.{Desk}
 use Rattle.desk.specs.Desk.{zeroEntry, added, takenOut, stored}
@@ -21,11 +24,11 @@ use Rattle.rules.specs.declared.Event.{Event}
 use Rattle.bench.specs.declared.Seen.{Seen}
 use Rattle.bench.specs.declared.Change.{Change}
 use Rattle.bench.specs.declared.Change.the-variants.{Nothing, Send, Lose, Store}
-use Rattle.bench.specs.declared.Chosen.{Chosen}
+use Rattle.bench.specs.declared.Asked.{Asked}
 use Rattle.bench.specs.declared.Acted.{Acted}
-use Rattle.bench.specs.Acts.{deliveredAt, seenAt, chosen, carriedOut, refusedOn, settled, actOn, withEther, withArchive}
+use Rattle.bench.specs.Acts.{deliveredAt, seenAt, asked, toldAt, changeOf, carriedOut, settled, actOn}
 use Rattle.deeds.specs.declared.Deed.{Deed}
-use Rattle.deeds.specs.Deeds.{within, seenWith, deskStays, doing, deedBy, deedAt, deskAfter}
+use Rattle.deeds.specs.Deeds.{within, seenWith, deskStays, doing, deedOf, deedBy, deedAt, deskAfter}
 
 pub within-less : (n : ℕ) → within n < 256
 unfolding within
@@ -101,13 +104,17 @@ module _ (d : Desk) where
     does-so q (Lose k) = loses-so q k
     does-so q (Store e) = ⊎-elim (stores-so q e) (stores-not q e) (which (ltb (d .archive .count) 256))
 
+    settles-so : (p : Purse) (a : Asked) (t : Turned) → actedBy d (deedOf p s last entry a t) ≡ settled p d t (changeOf p a (t .message))
+    unfolding deedOf settled
+    settles-so p a t =
+        elim (which (eqb (t .answer) 0)) [
+          inl z ↦ rw z (does-so (recordAfter p (t .head) (t .log)) (changeOf p a (t .message)))
+        | inr z ↦ rw z (stays-so (t .answer) p)
+        ]
+
   acts-so : (p : Purse) (e : Event) → actedBy d (deedBy p (seenAt d (deliveredAt e)) last entry e) ≡ actOn p d e
-  unfolding deedBy settled actOn
-  acts-so p e =
-      elim (which (eqb (chosen p (seenAt d (deliveredAt e)) e .answer) 0)) [
-        inl z ↦ rw z (does-so (deliveredAt e) (chosen p (seenAt d (deliveredAt e)) e .purse) (chosen p (seenAt d (deliveredAt e)) e .change))
-      | inr z ↦ rw z (stays-so (deliveredAt e) (chosen p (seenAt d (deliveredAt e)) e .answer) p)
-      ]
+  unfolding deedBy actOn
+  acts-so p e = settles-so (deliveredAt e) p (asked (seenAt d (deliveredAt e)) e) (toldAt (headOf p) (asked (seenAt d (deliveredAt e)) e))
 
 -- an event's deed, written, is the bench's step at its record and the desk
 pub deed-acts : (p : Purse) (d : Desk) (e : Event) → length (d .ether .places) ≡ 256 → actedBy d (deedAt p d e) ≡ actOn p d e

@@ -9,14 +9,18 @@ use lib.Dec.{ltb, eqb}
 use Rattle.purse.specs.declared.Message.{Message}
 use Rattle.purse.specs.declared.Purse.{Purse}
 use Rattle.purse.specs.Details.{zeroMessage}
+use Rattle.refusals.specs.Heads.{headOf}
+use Rattle.card.specs.declared.Turned.{Turned}
+use Rattle.card.specs.Act.{recordAfter}
 use Rattle.desk.specs.declared.Entry.{Entry}
 use Rattle.desk.specs.declared.Desk.{Desk}
 use Rattle.desk.specs.Desk.{places, zeroEntry, takenOut}
 use Rattle.rules.specs.declared.Event.{Event}
 use Rattle.bench.specs.declared.Seen.{Seen}
+use Rattle.bench.specs.declared.Asked.{Asked}
 use Rattle.bench.specs.declared.Change.{Change}
 use Rattle.bench.specs.declared.Change.the-variants.{Nothing, Send, Lose, Store}
-use Rattle.bench.specs.Acts.{deliveredAt, chosen, withEther}
+use Rattle.bench.specs.Acts.{deliveredAt, asked, toldAt, changeOf, withEther}
 use Rattle.deeds.specs.declared.Deed.{Deed}
 
 -- the place n, or the last place where n is past all
@@ -88,11 +92,15 @@ doing q s last entry (Store e) =
     })
     (deskStays 0 q s last entry)
 
+-- what is asked for, told to the card at the head of its record p
+unfoldable pub deedOf : Purse → Seen → Message → Entry → Asked → Turned → Deed
+deedOf p s last entry a t =
+    cond (eqb (t .answer) 0) (doing (recordAfter p (t .head) (t .log)) s last entry (changeOf p a (t .message)))
+    (deskStays (t .answer) p s last entry)
+
 -- an event at its record p
 unfoldable pub deedBy : Purse → Seen → Message → Entry → Event → Deed
-deedBy p s last entry e =
-    cond (eqb (chosen p s e .answer) 0) (doing (chosen p s e .purse) s last entry (chosen p s e .change))
-    (deskStays (chosen p s e .answer) p s last entry)
+deedBy p s last entry e = deedOf p s last entry (asked s e) (toldAt (headOf p) (asked s e))
 
 -- an event at its record p and the desk
 unfoldable pub deedAt : Purse → Desk → Event → Deed

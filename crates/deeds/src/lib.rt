@@ -1,21 +1,27 @@
 // What an event writes in a lent table and desk, place by place, so that nothing else is moved: worked out by value from the record that it
 // names and the few places that it reads.
+use bench::Asked;
 use bench::Change;
 use bench::Seen;
-use bench::choose;
+use bench::ask;
+use bench::change_of;
 use bench::decode;
 use bench::delivered_at;
 use bench::place_of;
+use bench::tell;
+use card::Turned;
+use card::record;
 use desk::Entry;
 use desk::Ether;
 use purse::Message;
 use purse::Purse;
+use refusals::Head;
 use rules::Event;
 ghost use mathlib.Core.Path.{_≡_};
 ghost use Rattle.rules.specs.Events.{decoded};
 ghost use Rattle.desk.specs.Desk.{takenOut};
 ghost use Rattle.bench.specs.Acts.{placeOf, deliveredAt};
-ghost use Rattle.deeds.specs.Deeds.{within, seenWith, deskStays, doing, deedBy};
+ghost use Rattle.deeds.specs.Deeds.{within, seenWith, deskStays, doing, deedOf, deedBy};
 
 // What an event writes: the answer, its record's next state, what then stands behind the messages and behind the entries with their
 // counts, and the place of a message that is lost.
@@ -146,6 +152,23 @@ fn doing(q: Purse, s: Seen, last: Message, entry: Entry, change: Change) -> Deed
     }
 }
 
+// What is asked for, as the card answered it at the head of its record p.
+fn deed_of(p: Purse, s: Seen, last: Message, entry: Entry, asked: Asked, t: Turned) -> Deed
+    ensures { λ r. ⌜ r ≡ deedOf p s last entry asked t ⌝ }
+{
+    let n = t.answer;
+    if n == 0 {
+        let head = t.head;
+        let log = t.log;
+        let m = t.message;
+        let q = record(p, head, log);
+        let change = change_of(p, asked, m);
+        doing(q, s, last, entry, change)
+    } else {
+        desk_stays(n, p, s, last, entry)
+    }
+}
+
 // What an event writes at its record p and behind the messages and the entries that stand, where `last` and `entry` stand now.
 pub fn done_by(
     p: Purse,
@@ -161,15 +184,9 @@ pub fn done_by(
 {
     let e = decode(event);
     let s = seen(purses, messages, entries, m, e);
-    let c = choose(p, s, e);
-    let n = c.answer;
-    if n == 0 {
-        let q = c.purse;
-        let change = c.change;
-        doing(q, s, last, entry, change)
-    } else {
-        desk_stays(n, p, s, last, entry)
-    }
+    let asked = ask(s, e);
+    let t = tell(Head::of(p), asked);
+    deed_of(p, s, last, entry, asked, t)
 }
 
 // The messages without the one at a place.

@@ -1,4 +1,5 @@
 pub mod Cases
+pub mod Parts
 pub mod Ladders
 pub mod Passed
 pub mod SameNumbers

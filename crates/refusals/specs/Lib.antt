@@ -1,2 +1,3 @@
+pub mod Form
 pub mod Heads
 pub mod Numbers

@@ -1,14 +1,26 @@
-// The test of the rules about one purse alone, and of the payment details that it holds.
+// The test of the rules about one purse alone, and of the payment details that it holds. It is cut into the head by value and one place of the
+// log by value: a record handed whole into a loop is taken apart field by field on every turn.
 use purse::Amount;
 use purse::Details;
 use purse::Name;
 use purse::Purse;
 use purse::Seq;
 ghost use mathlib.Core.Path.{_≡_};
-ghost use mathlib.Core.Bool.{_||_};
-ghost use Prim.Native.Nat.{_≤_, _<_};
-ghost use Rattle.purse.specs.Details.{legal, named, asPayer, asPayee, entryOk, absent};
-ghost use Rattle.purse.specs.Purse.{idleOk, busyOk, placeOk, logOk, wellFormed};
+ghost use mathlib.Core.Bool.{_&&_, _||_, not};
+ghost use Prim.Native.Nat.{_≤_, min};
+ghost use Rattle.purse.specs.Lists.{all};
+ghost use Rattle.purse.specs.Details.{sameDetails, legal, named, asPayer, asPayee, entryOk, absent};
+ghost use Rattle.purse.specs.Purse.{ceiling, logPlaces, idleOk, busyOk, logOk, wellFormed};
+ghost use Rattle.refusals.specs.Form.{headed, logging, unused, headOk};
+
+// A purse without its log.
+pub struct Head {
+    pub balance: Amount,
+    pub next: Seq,
+    pub status: u8,
+    pub details: Details,
+    pub logged: u8,
+}
 
 // An amount from 1 to the ceiling.
 pub fn is_legal(a: Amount) -> bool
@@ -48,6 +60,70 @@ pub fn is_entry(d: Details, own: Name, next: Seq) -> bool
     is_named(d) & (is_payer(d, own, next) | is_payee(d, own, next))
 }
 
+// Unused details: every field zero.
+pub fn is_unused(d: Details) -> bool
+    ensures { λ r. ⌜ r ≡ unused d ⌝ }
+{
+    (d.payer.0 == 0)
+        & (d.payerseq.0 == 0)
+        & (d.payee.0 == 0)
+        & (d.payeeseq.0 == 0)
+        & (d.amount.0 == 0)
+}
+
+// A log without entries: each of its places unused.
+pub fn is_log_unused(log: [Details; 8]) -> bool
+    ensures { λ r. ⌜ r ≡ all unused log ⌝ }
+{
+    let mut ok = true;
+    let mut i: usize = 0;
+    while i < 8 {
+        let e = log[i];
+        ok = ok & is_unused(e);
+        i += 1;
+    }
+    ok
+}
+
+// What the status asks: zero details of an idle purse, its own side and its money of a busy one. `most` is what the purse may hold.
+fn is_status_ok(h: Head, most: u32, own: Name) -> bool
+    requires { ⌜ most ≡ ceiling (headed h) ⌝ }
+    ensures { λ r. ⌜ r ≡ (idleOk (headed h) || busyOk own (headed h)) ⌝ }
+{
+    let d = h.details;
+    let next = h.next;
+    let running = is_named(d) & (h.logged < Purse::LOG_PLACES);
+    let status = h.status;
+    match status {
+        0 => is_unused(d),
+        1 => running & ((d.amount.0 <= h.balance.0) & is_payer(d, own, next)),
+        2 => {
+            let after = h.balance.0 as u64 + d.amount.0 as u64;
+            running & ((after <= most as u64) & is_payee(d, own, next))
+        }
+        3 => running & is_payer(d, own, next),
+        4..=255 => false,
+    }
+}
+
+// The rules that read no log.
+fn is_head_ok(h: Head, most: u32, own: Name) -> bool
+    requires { ⌜ most ≡ ceiling (headed h) ⌝ }
+    ensures { λ r. ⌜ r ≡ headOk own (headed h) ⌝ }
+{
+    (h.balance.0 <= most)
+        & (1 <= h.next.0)
+        & (h.logged <= Purse::LOG_PLACES)
+        & is_status_ok(h, most, own)
+}
+
+// A place of the log that is used: an entry, and not the running details.
+fn is_place_ok(e: Details, running: Details, next: Seq, own: Name) -> bool
+    ensures { λ r. ⌜ r ≡ (entryOk own next e && not (sameDetails running e)) ⌝ }
+{
+    is_entry(e, own, next) & !running.same(e)
+}
+
 // None of the first n places is d.
 fn is_absent(log: [Details; 8], n: usize, d: Details) -> bool
     requires { ⌜ n ≤ 8 ⌝ }
@@ -63,61 +139,58 @@ fn is_absent(log: [Details; 8], n: usize, d: Details) -> bool
     ok
 }
 
-// What the status asks: zero details of an idle purse, its own side and its money of a busy one.
-fn is_status_ok(p: Purse, own: Name) -> bool
-    ensures { λ r. ⌜ r ≡ (idleOk p || busyOk own p) ⌝ }
+// How many of the eight places a count says are used.
+fn used_places(logged: u8) -> usize
+    ensures { λ r. ⌜ r ≡ min logged logPlaces ⌝ }
 {
-    let d = p.details;
-    let next = p.next;
-    let most = p.ceiling();
-    let running = is_named(d) & (p.logged < Purse::LOG_PLACES);
-    let status = p.status;
-    match status {
-        0 => d.same(Details::zero()),
-        1 => running & ((d.amount.0 <= p.balance.0) & is_payer(d, own, next)),
-        2 => {
-            let after = p.balance.0 as u64 + d.amount.0 as u64;
-            running & ((after <= most as u64) & is_payee(d, own, next))
-        }
-        3 => running & is_payer(d, own, next),
-        4..=255 => false,
-    }
-}
-
-// A place of the log: an entry, not the running details, and at no place before it; or unused.
-fn is_place_ok(p: Purse, own: Name, i: usize) -> bool
-    requires { ⌜ i < 8 ⌝ }
-    ensures { λ r. ⌜ r ≡ placeOk own p i ⌝ }
-{
-    let log = p.log;
-    let e = log[i];
-    let n = p.logged as usize;
-    if i < n {
-        is_entry(e, own, p.next) & !p.details.same(e) & is_absent(log, i, e)
+    if logged < Purse::LOG_PLACES {
+        logged as usize
     } else {
-        e.same(Details::zero())
+        8
     }
 }
 
-fn is_log_ok(p: Purse, own: Name) -> bool
-    ensures { λ r. ⌜ r ≡ logOk own p ⌝ }
+// The used places, each at no place before it; then the others, unused.
+fn is_log_ok(log: [Details; 8], logged: u8, running: Details, next: Seq, own: Name) -> bool
+    ensures { λ r. ⌜ r ≡ logOk own (logging log logged running next) ⌝ }
 {
+    let used = used_places(logged);
     let mut ok = true;
     let mut i: usize = 0;
-    while i < Purse::LOG_PLACES as usize {
-        ok = ok & is_place_ok(p, own, i);
+    while i < used {
+        let e = log[i];
+        ok = ok & (is_place_ok(e, running, next, own) & is_absent(log, i, e));
+        i += 1;
+    }
+    while i < 8 {
+        let e = log[i];
+        ok = ok & is_unused(e);
         i += 1;
     }
     ok
 }
 
-// The rules about one purse alone, `own` its name.
+// The rules about one purse alone, `own` its name. A log without entries is asked where it stands, any other in a copy of it alone.
 pub fn well_formed(p: Purse, own: Name) -> bool
     ensures { λ r. ⌜ r ≡ wellFormed own p ⌝ }
 {
-    (p.balance.0 <= p.ceiling())
-        & (1 <= p.next.0)
-        & (p.logged <= Purse::LOG_PLACES)
-        & is_status_ok(p, own)
-        & is_log_ok(p, own)
+    let balance = p.balance;
+    let next = p.next;
+    let running = p.details;
+    let h = Head {
+        balance: balance,
+        next: next,
+        status: p.status,
+        details: running,
+        logged: p.logged,
+    };
+    let most = p.ceiling();
+    let head = is_head_ok(h, most, own);
+    if p.logged == 0 {
+        let log = p.log;
+        head & is_log_unused(log)
+    } else {
+        let log = p.log;
+        head & is_log_ok(log, p.logged, running, next, own)
+    }
 }

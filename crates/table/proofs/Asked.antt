@@ -1,18 +1,19 @@
--- Places that a loop asks one by one, over any element type: f asks each used place, no two used places are the same, and the unused ones
--- are zero. Why each way out of the loop gives the whole answer.
+-- Places that a loop asks one by one, over any element type: f asks each used place, and no two used places are the same. Why each way out
+-- of the loop gives the whole answer, and what the unused places add to it.
 -- Assumes nothing.
 use Prim.Native.Nat.{ℕ, _+_, _-_, _≤_, _<_}
 use mathlib.Core.Path.{_≡_, refl, sym, _∙_, ap}
-use mathlib.Core.Bool.{Bool, true, false, _&&_, not, and-false, and-true}
+use mathlib.Core.Bool.{Bool, true, false, _&&_, not, and-false, and-assoc}
+use mathlib.Core.Logic.{⊎-elim}
 use mathlib.Core.List.{List, [], _∷_, _++_, map}
 use lib.ListN.{length, take, drop, getD, set, length-set}
 use lib.Seq.{length-take-le, getD-take, take-suc, take-suc-set, take-add}
 use lib.Dec.{leb, eqb}
 use native.Mathlib.Numerals.{add-one}
 use native.Mathlib.Omega.{arith}
-use borrow.Author.Tests.{eq-eqb, eqb-false, le-leb, lt-leb}
+use borrow.Author.Tests.{eqb-false, le-leb, lt-leb}
 use Rattle.purse.specs.Lists.{all, among, distinct}
-use Rattle.purse.proofs.Bools.{refute, nor-l, nor-r}
+use Rattle.purse.proofs.Bools.{which, refute, nor-l, nor-r}
 use Rattle.purse.proofs.Lists.{all-at, all-next, distinct-append, distinct-next}
 use Rattle.rules.specs.Laid.{placesOk}
 
@@ -22,13 +23,24 @@ not-apart same turn l j n g h e =
     let k : n ≡ j + (n - j) = omega arith in
     ap (λ (m : ℕ). distinct same (take m l)) k ∙ (ap (distinct same) (take-add j (n - j) l) ∙ (distinct-append same turn (take j l) (take (n - j) (drop j l)) ∙ rw e))
 
-module _ {A : Type 0} (f zero : A → Bool) (same : A → A → Bool) (l : List A) (n : ℕ) where
-  -- the whole answer
+module _ {A : Type 0} (f : A → Bool) (same : A → A → Bool) (l : List A) (n : ℕ) where
+  -- the whole answer of the used places
   abbrev pub asked : Bool
-  asked = placesOk zero 256 n l && all f (take n l) && distinct same (take n l)
+  asked = leb n 256 && all f (take n l) && distinct same (take n l)
+
+  pub none-used : n ≡ 0 → true ≡ asked
+  none-used e = rw e
 
   pub too-many : 256 < n → false ≡ asked
-  too-many g = sym (rw (lt-leb n 256 g, and-false (eqb (length l) 256)))
+  too-many g = sym (rw (lt-leb n 256 g))
+
+  -- with the unused places: these say already that the count is within the places
+  pub with-unused : (zero : A → Bool) → (placesOk zero 256 n l && asked) ≡ (placesOk zero 256 n l && all f (take n l) && distinct same (take n l))
+  with-unused zero =
+      ⊎-elim
+      (λ (e : leb n 256 ≡ true). rw e (sym (and-assoc (eqb (length l) 256 && true && all zero (drop n l)) (all f (take n l)) (distinct same (take n l)))))
+      (λ (e : leb n 256 ≡ false). rw (e, and-false (eqb (length l) 256)))
+      (which (leb n 256))
 
   module _ (z : A) (long : length l ≡ 256) (fits : n ≤ 256) where
     used : length (take n l) ≡ n
@@ -43,7 +55,7 @@ module _ {A : Type 0} (f zero : A → Bool) (same : A → A → Bool) (l : List 
         let b : _≡_ {A = Bool} true false = cc in
         let c : _≡_ {A = ℕ} 0 1 = cc in
         omega arith) in
-        sym (rw (a, and-false (placesOk zero 256 n l)))
+        sym (rw (a, and-false (leb n 256)))
 
     -- one that stands before
     pub one-before : ((x y : A) → same x y ≡ same y x) → (i : ℕ) {r : Bool} → i < n → r ≡ among same (getD l i z) (take i l) → r ≡ true → false ≡ asked
@@ -51,15 +63,14 @@ module _ {A : Type 0} (f zero : A → Bool) (same : A → A → Bool) (l : List 
         let d : distinct same (take (i + 1) l) ≡ false =
         distinct-next same turn l i z (omega arith) ∙ rw (sym k ∙ e) (and-false (distinct same (take i l))) in
         let whole : distinct same (take n l) ≡ false = not-apart same turn l (i + 1) n (omega arith) (omega arith) d in
-        sym (rw (whole, and-false (placesOk zero 256 n l && all f (take n l))))
+        sym (rw (whole, and-false (leb n 256 && all f (take n l))))
 
-    -- none refused and no two the same: what is left is the unused places
-    pub none-bad : (i : ℕ) {ok : Bool} → i ≡ n → all f (take i l) ≡ true → distinct same (take i l) ≡ true → ok ≡ all zero (drop i l) → ok ≡ asked
-    none-bad i {ok} e a d k =
+    -- none refused and no two the same
+    pub none-bad : (i : ℕ) → i ≡ n → all f (take i l) ≡ true → distinct same (take i l) ≡ true → true ≡ asked
+    none-bad i e a d =
         let a′ : all f (take n l) ≡ true = rw e at a in
         let d′ : distinct same (take n l) ≡ true = rw e at d in
-        let k′ : ok ≡ all zero (drop n l) = rw e at k in
-        k′ ∙ sym (rw (eq-eqb (length l) 256 long, le-leb n 256 fits, a′, d′, and-true (all zero (drop n l)), and-true (all zero (drop n l))))
+        sym (rw (le-leb n 256 fits, a′, d′))
 
     -- one place more
     pub one-more : (i : ℕ) {r : Bool} → i < n → all f (take i l) ≡ true → r ≡ f (getD l i z) → r ≡ true → all f (take (i + 1) l) ≡ true

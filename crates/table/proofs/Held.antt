@@ -11,7 +11,7 @@ use lib.ListN.{length, take, drop, getD, length-drop}
 use lib.Seq.{length-take-le, getD-take, getD-drop}
 use lib.Dec.{ltb, leb, eqb}
 use native.Mathlib.Omega.{arith}
-use borrow.Author.Tests.{leb-true, le-leb, ltb-true, ltb-false, lt-ltb, le-ltb, eqb-true, eq-eqb}
+use borrow.Author.Tests.{leb-true, le-leb, ltb-true, ltb-false, eqb-true, eq-eqb}
 use Rattle.purse.specs.declared.Name.{Name}
 use Rattle.purse.specs.declared.Details.{Details}
 use Rattle.purse.specs.declared.Message.{Message}
@@ -32,6 +32,7 @@ use Rattle.rules.proofs.Places.{places-long, places-fit, places-used, places-re
 use Rattle.table.specs.Records.{standing, collected, when, within, messageAlone, messageBeside, messageIn, entryAlone, entryBeside, entryIn, holds, namesOk, recordOf, recordOk, recordsOk, messagesOk, entriesOk, byMessages}
 use Rattle.table.proofs.Same.{when-i, when-e}
 use Rattle.table.proofs.Beside.{within-table, message-alone, message-beside, message-whole, inside, entry-alone, entry-beside, entry-whole, entry-once}
+use Rattle.table.proofs.Record.{is-used, is-unused}
 use Rattle.table.proofs.Once.{record-apart, archived-apart, apart-archived, once-parts}
 
 -- an unused place is zero
@@ -49,16 +50,6 @@ zero-places f many n l z e k h =
     (all-places f (drop n l) z (λ (j : ℕ) (g : j < length (drop n l)).
     let m : j < length l - n = rw (length-drop n l) at g in
     rw (getD-drop n l j z) (h (n + j) (omega arith) (omega arith))))
-
--- a record's test, by its place
-module _ (n i : ℕ) (p : Purse) where
-  is-used : i < n → recordOk n i p ≡ (wellFormed (called i) p && namesOk n p)
-  unfolding recordOk
-  is-used g = rw (lt-ltb i n g)
-
-  is-unused : n ≤ i → recordOk n i p ≡ isZeroPurse p
-  unfolding recordOk
-  is-unused g = rw (le-ltb i n g)
 
 module _ (h : Held) where
   abbrev n : ℕ

@@ -1,7 +1,7 @@
 pub mod Same
 pub mod Beside
 pub mod Once
-pub mod Held
 pub mod Record
+pub mod Held
 pub mod Asked
 pub mod Lookups

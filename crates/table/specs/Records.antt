@@ -101,13 +101,21 @@ recordOk n i p = cond (ltb i n) (wellFormed (called i) p && namesOk n p) (isZero
 unfoldable pub recordsOk : ℕ → List Purse → Bool
 recordsOk n l = every 32 (λ (i : ℕ). recordOk n i (getD l i zeroPurse))
 
--- the messages: their count, each beside the records that it names, "No two messages are equal", and the unused places
+-- the messages that stand: no more than the places, each beside the records that it names, "No two messages are equal"
+unfoldable pub standingOk : ℕ → List Purse → Ether → Bool
+standingOk n l e = leb (e .count) 256 && all (messageIn n l) (standing e) && distinct sameMessage (standing e)
+
+-- the entries collected, likewise: no purse has the same details twice among its archive entries
+unfoldable pub collectedOk : ℕ → List Purse → Archive → Bool
+collectedOk n l a = leb (a .count) 256 && all (entryIn n l) (collected a) && distinct sameEntry (collected a)
+
+-- the messages: their count, the unused places, and those that stand
 unfoldable pub messagesOk : ℕ → List Purse → Ether → Bool
 messagesOk n l e =
     placesOk isZeroMessage 256 (e .count) (e .places) && all (messageIn n l) (standing e)
     && distinct sameMessage (standing e)
 
--- the archive, likewise: no purse has the same details twice among its archive entries
+-- the archive, likewise
 unfoldable pub entriesOk : ℕ → List Purse → Archive → Bool
 entriesOk n l a =
     placesOk isZeroEntry 256 (a .count) (a .places) && all (entryIn n l) (collected a)

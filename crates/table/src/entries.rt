@@ -7,12 +7,10 @@ use desk::Archive;
 use desk::Entry;
 use purse::Purse;
 use refusals::form::is_entry;
+use refusals::form::is_unused;
 ghost use mathlib.Core.Path.{_≡_};
-ghost use Prim.Native.Nat.{_≤_};
-ghost use lib.ListN.{take};
-ghost use Rattle.purse.specs.Lists.{among};
-ghost use Rattle.desk.specs.Desk.{sameEntry};
-ghost use Rattle.table.specs.Records.{entryAlone, entryBeside, entriesOk};
+ghost use Rattle.rules.specs.Laid.{isZeroEntry, placesOk};
+ghost use Rattle.table.specs.Records.{entryAlone, entryBeside, collectedOk, entriesOk};
 
 // The purses that an entry names.
 fn entry_alone(e: Entry, purses: u8) -> bool
@@ -28,24 +26,10 @@ fn entry_beside(p: Purse, e: Entry, purses: u8) -> bool
     entry_alone(e, purses) & is_entry(e.details, e.by, p.next) & !holds(p, e.details)
 }
 
-// Whether one of the first n places is the same.
-fn is_before(archive: Archive, e: Entry, n: usize) -> bool
-    requires { ⌜ n ≤ 256 ⌝ }
-    ensures { λ r. ⌜ r ≡ among sameEntry e (take n (archive .places)) ⌝ }
-{
-    let mut hit = false;
-    let mut j: usize = 0;
-    while j < n {
-        let o = archive.places[j];
-        hit = hit | e.same(o);
-        j += 1;
-    }
-    hit
-}
-
-// Each entry beside the record of its purse, and against those before it that have its key; then the unused places.
-pub(crate) fn entries_ok(table: [Purse; 32], archive: Archive, purses: u8) -> bool
-    ensures { λ r. ⌜ r ≡ entriesOk purses table archive ⌝ }
+// Each entry beside the record of its purse, and against those before it by its key; all of
+// them are looked through only where the key is found.
+fn collected_ok(table: [Purse; 32], archive: Archive, purses: u8) -> bool
+    ensures { λ r. ⌜ r ≡ collectedOk purses table archive ⌝ }
 {
     let count = archive.count as usize;
     if 256 < count {
@@ -67,19 +51,46 @@ pub(crate) fn entries_ok(table: [Purse; 32], archive: Archive, purses: u8) -> bo
             hit = hit | (k == keys[s]);
             s += 1;
         }
-        let again = if hit { is_before(archive, e, i) } else { false };
+        let end = if hit { i } else { 0 };
+        let mut again = false;
+        let mut j: usize = 0;
+        while j < end {
+            let o = archive.places[j];
+            again = again | e.same(o);
+            j += 1;
+        }
         if again {
             return false;
         }
         keys[i] = k;
         i += 1;
     }
-    let zero = Entry::zero();
+    true
+}
+
+// A count within the places, and the places behind it unused.
+fn places_ok(archive: Archive) -> bool
+    ensures { λ r. ⌜ r ≡ placesOk isZeroEntry 256 (archive .count) (archive .places) ⌝ }
+{
+    let count = archive.count as usize;
     let mut ok = true;
+    let mut i = count;
     while i < 256 {
         let e = archive.places[i];
-        ok = ok & e.same(zero);
+        ok = ok & ((e.by.0 == 0) & is_unused(e.details));
         i += 1;
     }
-    ok
+    (count <= 256) & ok
+}
+
+// The whole. Without entries the table is not looked at, so that no copy of it is made.
+pub(crate) fn entries_ok(table: [Purse; 32], archive: Archive, purses: u8) -> bool
+    ensures { λ r. ⌜ r ≡ entriesOk purses table archive ⌝ }
+{
+    let beside = if archive.count == 0 {
+        true
+    } else {
+        collected_ok(table, archive, purses)
+    };
+    places_ok(archive) & beside
 }

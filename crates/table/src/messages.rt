@@ -6,12 +6,10 @@ use desk::Ether;
 use purse::Message;
 use purse::Purse;
 use refusals::form::is_named;
+use refusals::form::is_unused;
 ghost use mathlib.Core.Path.{_≡_};
-ghost use Prim.Native.Nat.{_≤_};
-ghost use lib.ListN.{take};
-ghost use Rattle.purse.specs.Lists.{among};
-ghost use Rattle.purse.specs.Details.{sameMessage};
-ghost use Rattle.table.specs.Records.{messageAlone, payeeOk, payerOk, messageBeside, messagesOk};
+ghost use Rattle.rules.specs.Laid.{isZeroMessage, placesOk};
+ghost use Rattle.table.specs.Records.{messageAlone, payeeOk, payerOk, messageBeside, standingOk, messagesOk};
 
 // A message's kind and what its details name.
 fn message_alone(m: Message, purses: u8) -> bool
@@ -45,24 +43,10 @@ fn message_beside(payee: Purse, payer: Purse, m: Message, purses: u8) -> bool
     message_alone(m, purses) & payee_ok(payee, m) & payer_ok(payer, m)
 }
 
-// Whether one of the first n places is the same.
-fn is_before(ether: Ether, m: Message, n: usize) -> bool
-    requires { ⌜ n ≤ 256 ⌝ }
-    ensures { λ r. ⌜ r ≡ among sameMessage m (take n (ether .places)) ⌝ }
-{
-    let mut hit = false;
-    let mut j: usize = 0;
-    while j < n {
-        let o = ether.places[j];
-        hit = hit | m.same(o);
-        j += 1;
-    }
-    hit
-}
-
-// Each message beside the records that it names, and against those before it that have its key; then the unused places.
-pub(crate) fn messages_ok(table: [Purse; 32], ether: Ether, purses: u8) -> bool
-    ensures { λ r. ⌜ r ≡ messagesOk purses table ether ⌝ }
+// Each message beside the records that it names, and against those before it by its key; all of
+// them are looked through only where the key is found.
+fn standing_ok(table: [Purse; 32], ether: Ether, purses: u8) -> bool
+    ensures { λ r. ⌜ r ≡ standingOk purses table ether ⌝ }
 {
     let count = ether.count as usize;
     if 256 < count {
@@ -86,19 +70,46 @@ pub(crate) fn messages_ok(table: [Purse; 32], ether: Ether, purses: u8) -> bool
             hit = hit | (k == keys[s]);
             s += 1;
         }
-        let again = if hit { is_before(ether, m, i) } else { false };
+        let end = if hit { i } else { 0 };
+        let mut again = false;
+        let mut j: usize = 0;
+        while j < end {
+            let o = ether.places[j];
+            again = again | m.same(o);
+            j += 1;
+        }
         if again {
             return false;
         }
         keys[i] = k;
         i += 1;
     }
-    let zero = Message::zero();
+    true
+}
+
+// A count within the places, and the places behind it unused.
+fn places_ok(ether: Ether) -> bool
+    ensures { λ r. ⌜ r ≡ placesOk isZeroMessage 256 (ether .count) (ether .places) ⌝ }
+{
+    let count = ether.count as usize;
     let mut ok = true;
+    let mut i = count;
     while i < 256 {
         let m = ether.places[i];
-        ok = ok & m.same(zero);
+        ok = ok & ((m.kind == 0) & is_unused(m.details));
         i += 1;
     }
-    ok
+    (count <= 256) & ok
+}
+
+// The whole. Without messages the table is not looked at, so that no copy of it is made.
+pub(crate) fn messages_ok(table: [Purse; 32], ether: Ether, purses: u8) -> bool
+    ensures { λ r. ⌜ r ≡ messagesOk purses table ether ⌝ }
+{
+    let beside = if ether.count == 0 {
+        true
+    } else {
+        standing_ok(table, ether, purses)
+    };
+    places_ok(ether) & beside
 }

@@ -4,10 +4,12 @@ use crate::places::is_within;
 use purse::Details;
 use purse::Name;
 use purse::Purse;
+use refusals::form::is_log_unused;
+use refusals::form::is_unused;
 use refusals::form::well_formed;
 ghost use mathlib.Core.Path.{_≡_};
 ghost use Rattle.rules.specs.Laid.{isZeroPurse};
-ghost use Rattle.table.specs.Records.{namesOk, holds, recordOk, recordsOk};
+ghost use Rattle.table.specs.Records.{namesOk, holds, recordsOk};
 
 // Whether running details and log entries name purses of the table.
 pub(crate) fn names_ok(p: Purse, purses: u8) -> bool
@@ -43,43 +45,31 @@ pub(crate) fn holds(p: Purse, d: Details) -> bool
 pub(crate) fn is_zero(p: Purse) -> bool
     ensures { λ r. ⌜ r ≡ isZeroPurse p ⌝ }
 {
-    let zero = Details::zero();
-    let mut ok = true;
-    let mut i: usize = 0;
-    while i < 8 {
-        let d = p.log[i];
-        ok = ok & d.same(zero);
-        i += 1;
-    }
+    let log = p.log;
     (p.balance.0 == 0)
         & (p.next.0 == 0)
         & (p.status == 0)
         & (p.logged == 0)
-        & p.details.same(zero)
-        & ok
+        & is_unused(p.details)
+        & is_log_unused(log)
 }
 
-// The record at a place of the table, alone.
-fn record_ok(p: Purse, at: usize, purses: u8) -> bool
-    ensures { λ r. ⌜ r ≡ recordOk purses at p ⌝ }
-{
-    if at < purses as usize {
-        let own = Name(at as u8);
-        well_formed(p, own) & names_ok(p, purses)
-    } else {
-        is_zero(p)
-    }
-}
-
-// Each of the 32 records alone.
+// Each of the 32 records alone: those of the purses, then the unused ones.
 pub(crate) fn records_ok(table: [Purse; 32], purses: u8) -> bool
     ensures { λ r. ⌜ r ≡ recordsOk purses table ⌝ }
 {
+    let many = at_most(purses as usize, 32);
     let mut ok = true;
     let mut i: usize = 0;
+    while i < many {
+        let p = table[i];
+        let own = Name(i as u8);
+        ok = ok & (well_formed(p, own) & names_ok(p, purses));
+        i += 1;
+    }
     while i < 32 {
         let p = table[i];
-        ok = ok & record_ok(p, i, purses);
+        ok = ok & is_zero(p);
         i += 1;
     }
     ok

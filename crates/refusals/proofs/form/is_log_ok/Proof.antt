@@ -1,48 +1,108 @@
--- `card::rules::is_log_ok` meets its contract: the invariant: so far the answer is that of the places passed; the array has its eight places. Assumes nothing.
+-- `refusals::form::is_log_ok` meets its contract: each turn of the first loop asks a used place more, each turn of the second leaves an unused
+-- one less, and that is the whole log (`log-parts`). Assumes nothing.
+use Prim.Native.Nat.{ℕ, _≤_, _<_, _-_}
+use mathlib.Core.Path.{_≡_, refl, ap, sym, _∙_}
+use mathlib.Core.Bool.{Bool, true, _&&_}
+use lib.ListN.{length, drop}
 use native.Mathlib.Omega.{arith}
-use native.Mathlib.Numerals.{add-one}
-use mathlib.Core.Path.{_≡_}
-use Prim.Native.Nat.{_≤_, _-_}
-use lib.ListN.{length}
-use borrow.Author.Tests.{eq-eqb}
-use Rattle.purse.specs.Lists.{every}
-use Rattle.purse.specs.Purse.{placeOk, logOk}
-use Rattle.purse.proofs.Lists.{unmapped}
+use Rattle.purse.specs.declared.Purse.{Purse}
+use Rattle.purse.specs.Lists.{every, all}
+use Rattle.purse.specs.Details.{zeroDetails}
+use Rattle.purse.proofs.Walks.{more-every, rest-more, rest-end}
+use Rattle.refusals.specs.Form.{unused, logging}
+use Rattle.refusals.proofs.Parts.{usedAt, log-parts}
 use borrow.Author.Needs.{needs}
 use Rattle.refusals.proofs.form.is_log_ok.Statement.{statement}
 use Rattle.refusals.proofs.form.is_log_ok.Tie as tie
 
 abbrev Inv-loop : tie.InvT-loop
-Inv-loop p own ok₀ i₀ ok i = (i ≤ 8) × (ok ≡ every i (placeOk own p))
+Inv-loop logged running next own log used ok₀ i₀ ok i = (used ≤ 8) × (i ≤ used) × (ok ≡ every i (usedAt own (logging log logged running next)))
 
 abbrev μ-loop : tie.MeasureT-loop
-μ-loop p own ok₀ i₀ ok i = 8 - i
+μ-loop logged running next own log used ok₀ i₀ ok i = used - i
 
-loop-holds : tie.Need-loop-holds Inv-loop μ-loop
-loop-holds c = search needs
+abbrev Inv-loop2 : tie.InvT-loop2
+Inv-loop2 logged log used ok₀ i₀ ok i = (ok && all unused (drop i log)) ≡ (ok₀ && all unused (drop i₀ log))
 
-cast-loop : tie.Need-cast-loop Inv-loop μ-loop
-cast-loop c = search needs
+abbrev μ-loop2 : tie.MeasureT-loop2
+μ-loop2 logged log used ok₀ i₀ ok i = 8 - i
 
-is-place-ok-requires : tie.Need-is-place-ok-requires Inv-loop μ-loop
+-- the log, its count and what its rules read, as they are handed in
+abbrev told : tie.Start Inv-loop μ-loop Inv-loop2 μ-loop2 → Purse
+told start = logging (start .args .t1) (start .args .logged) (start .args .running) (start .args .next)
+
+long : (start : tie.Start Inv-loop μ-loop Inv-loop2 μ-loop2) → length (start .args .t1) ≡ 8
+long start = start .good .0 .1 .0 .1
+
+used-places-requires : tie.Need-used-places-requires Inv-loop μ-loop Inv-loop2 μ-loop2
+used-places-requires c κs = search needs
+
+loop-holds : tie.Need-loop-holds Inv-loop μ-loop Inv-loop2 μ-loop2
+loop-holds c = (omega arith, omega arith, refl)
+
+mul-e : tie.Need-mul-e Inv-loop μ-loop Inv-loop2 μ-loop2
+mul-e c = search needs
+
+array-copy-out-e : tie.Need-array-copy-out-e Inv-loop μ-loop Inv-loop2 μ-loop2
+array-copy-out-e c = search needs
+
+is-place-ok-requires : tie.Need-is-place-ok-requires Inv-loop μ-loop Inv-loop2 μ-loop2
 is-place-ok-requires c κs = search needs
 
-add-i : tie.Need-add-i Inv-loop μ-loop
+is-absent-requires : tie.Need-is-absent-requires Inv-loop μ-loop Inv-loop2 μ-loop2
+is-absent-requires c κs = search needs
+
+add-i : tie.Need-add-i Inv-loop μ-loop Inv-loop2 μ-loop2
 add-i c = search needs
 
-loop-less : tie.Need-loop-less Inv-loop μ-loop
+loop-less : tie.Need-loop-less Inv-loop μ-loop Inv-loop2 μ-loop2
 loop-less c = search needs
 
-loop-again : tie.Need-loop-again Inv-loop μ-loop
-loop-again c = (omega arith, rw add-one cc)
+loop-again : tie.Need-loop-again Inv-loop μ-loop Inv-loop2 μ-loop2
+loop-again c =
+    let at-loop = c .before .before .before .before in
+    let start = at-loop .before .before in (
+      at-loop .loop .inv .0,
+      omega arith,
+      more-every (usedAt (start .args .own) (told start)) (at-loop .loop .i) true (at-loop .loop .inv .2)
+          (rw (c .before .is-place-ok .ensures, c .is-absent .ensures)),
+    )
 
--- at entry the log has its eight places
-long : (c : tie.Start Inv-loop μ-loop) → length (c .args .p .log) ≡ 8
-long c = search (needs, unmapped)
+loop2-holds : tie.Need-loop2-holds Inv-loop μ-loop Inv-loop2 μ-loop2
+loop2-holds c = refl
 
-returns : tie.Need-returns Inv-loop μ-loop
-unfolding logOk
-returns c = let e : c .before .loop .i ≡ 8 = omega arith in simp (eq-eqb _ 8 (long (c .before .before))) (cc)
+mul-e-2 : tie.Need-mul-e-2 Inv-loop μ-loop Inv-loop2 μ-loop2
+mul-e-2 c = search needs
+
+array-copy-out-e-2 : tie.Need-array-copy-out-e-2 Inv-loop μ-loop Inv-loop2 μ-loop2
+array-copy-out-e-2 c = search needs
+
+is-unused-requires : tie.Need-is-unused-requires Inv-loop μ-loop Inv-loop2 μ-loop2
+is-unused-requires c κs = search needs
+
+add-i-2 : tie.Need-add-i-2 Inv-loop μ-loop Inv-loop2 μ-loop2
+add-i-2 c = search needs
+
+loop2-less : tie.Need-loop2-less Inv-loop μ-loop Inv-loop2 μ-loop2
+loop2-less c = search needs
+
+loop2-again : tie.Need-loop2-again Inv-loop μ-loop Inv-loop2 μ-loop2
+loop2-again c =
+    let at-loop2 = c .before .before .before in
+    let start = at-loop2 .before .before .before .before in
+    rest-more unused (start .args .t1) (at-loop2 .loop2 .i) zeroDetails (at-loop2 .loop2 .ok) (omega (arith, long start)) (at-loop2 .loop2 .inv) (c .is-unused .ensures)
+
+returns : tie.Need-returns Inv-loop μ-loop Inv-loop2 μ-loop2
+returns c =
+    let at-loop2 = c .before in
+    let at-loop = at-loop2 .before .before in
+    let start = at-loop .before .before in
+    let l = start .args .t1 in
+    let used = at-loop .before .used-places .result in
+    let full : at-loop .loop .i ≡ used = omega arith in
+    let rest : at-loop2 .loop2 .ok ≡ (at-loop .loop .ok && all unused (drop (at-loop .loop .i) l)) =
+    rest-end unused l (at-loop2 .loop2 .i) (at-loop2 .loop2 .ok) (omega (arith, long start)) (at-loop2 .loop2 .inv) in
+    rest ∙ rw (at-loop .loop .inv .2, full) (sym (log-parts (start .args .own) (told start) used (long start) (at-loop .before .used-places .ensures)))
 
 pub is-log-ok-spec : {M : Type 1} → statement M
 is-log-ok-spec =
@@ -50,10 +110,22 @@ is-log-ok-spec =
     (tie.spec
     Inv-loop
     μ-loop
+    Inv-loop2
+    μ-loop2
+    used-places-requires
     loop-holds
-    cast-loop
+    mul-e
+    array-copy-out-e
     is-place-ok-requires
+    is-absent-requires
     add-i
     loop-less
     loop-again
+    loop2-holds
+    mul-e-2
+    array-copy-out-e-2
+    is-unused-requires
+    add-i-2
+    loop2-less
+    loop2-again
     returns)

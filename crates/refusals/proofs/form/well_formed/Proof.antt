@@ -1,5 +1,11 @@
--- `card::rules::well_formed` meets its contract: by what its tests promise. Assumes nothing.
-use Rattle.purse.specs.Purse.{wellFormed}
+-- `refusals::form::well_formed` meets its contract: the head, then the log, by what their tests promise (`Parts`). Assumes nothing.
+use mathlib.Core.Path.{_≡_, _∙_, sym}
+use lib.ListN.{length}
+use native.Mathlib.Omega.{arith}
+use Rattle.purse.specs.Purse.{idleOk, busyOk, placeOk, logOk}
+use Rattle.purse.proofs.Lists.{unmapped}
+use Rattle.refusals.specs.Form.{headOk}
+use Rattle.refusals.proofs.Parts.{log-empty, whole}
 use borrow.Author.Needs.{needs}
 use Rattle.refusals.proofs.form.well_formed.Statement.{statement}
 use Rattle.refusals.proofs.form.well_formed.Tie as tie
@@ -7,16 +13,39 @@ use Rattle.refusals.proofs.form.well_formed.Tie as tie
 ceiling-requires : tie.Need-ceiling-requires
 ceiling-requires c κs = search needs
 
-is-status-ok-requires : tie.Need-is-status-ok-requires
-is-status-ok-requires c κs = search needs
+is-head-ok-requires : tie.Need-is-head-ok-requires
+is-head-ok-requires c κs = search needs
+
+is-log-unused-requires : tie.Need-is-log-unused-requires
+is-log-unused-requires c κs = search needs
 
 is-log-ok-requires : tie.Need-is-log-ok-requires
 is-log-ok-requires c κs = search needs
 
+-- at entry the log has its eight places
+long : (start : tie.Start) → length (start .args .p .log) ≡ 8
+long start = search (needs, unmapped)
+
 returns : tie.Need-returns
-unfolding wellFormed
-returns c = cc
+unfolding headOk idleOk busyOk
+returns c =
+    let start = c .before .before .before .before .before .before .before .before .before in
+    whole (start .args .own) (start .args .p) (c .before .before .before .before .is-head-ok .ensures)
+    (c .is-log-unused .ensures ∙ sym (log-empty (start .args .own) (start .args .p) (long start) (omega arith)))
+
+returns-2 : tie.Need-returns-2
+unfolding headOk idleOk busyOk logOk placeOk
+returns-2 c =
+    let start = c .before .before .before .before .before .before .before .before .before in
+    whole (start .args .own) (start .args .p) (c .before .before .before .before .is-head-ok .ensures) (c .is-log-ok .ensures)
 
 pub well-formed-spec : {M : Type 1} → statement M
 well-formed-spec =
-    tie.close (tie.spec ceiling-requires is-status-ok-requires is-log-ok-requires returns)
+    tie.close
+    (tie.spec
+    ceiling-requires
+    is-head-ok-requires
+    is-log-unused-requires
+    is-log-ok-requires
+    returns
+    returns-2)

@@ -1,282 +1,33 @@
--- Each entry is asked beside the record of the purse that logged it, and held against those before it; then each unused place. The ways out
--- are the laws of Asked.
+-- Where none stands the used places ask nothing; else they are asked by `collected_ok`; and the unused ones beside them (`with-unused`).
 -- Assumes nothing.
-use Prim.Native.Nat.{ℕ, _≤_, _<_, _-_}
-use mathlib.Core.Path.{_≡_, refl, sym, ap, _∙_}
-use mathlib.Core.Bool.{Bool, true, false, _&&_}
+use mathlib.Core.Path.{_≡_, _∙_}
+use mathlib.Core.Bool.{Bool}
 use mathlib.Core.Logic.{⊎-elim}
-use lib.ListN.{length, length-map, take, drop, getD}
-use lib.Dec.{eqb}
-use native.Mathlib.Omega.{arith}
-use borrow.Author.Tests.{not-true, not-false}
-use borrow.Author.Needs.{needs}
-use Rattle.purse.specs.Lists.{all, among, distinct}
-use Rattle.purse.proofs.Walks.{more-any, apart-more, rest-more, rest-end}
-use Rattle.desk.specs.Desk.{zeroEntry, sameEntry}
+use Rattle.desk.specs.declared.Entry.{Entry}
+use Rattle.desk.specs.Desk.{sameEntry}
 use Rattle.rules.specs.Laid.{isZeroEntry}
-use Rattle.table.specs.Records.{entryIn, entriesOk}
-use Rattle.table.proofs.Same.{turn-entry, entryKey, entry-key}
-use Rattle.table.proofs.Asked.{too-many, one-bad, one-before, none-bad, one-more, Keyed, no-key, key-more}
-use Rattle.table.proofs.Lookups.{place-below, entry-at}
+use Rattle.table.specs.Records.{entryIn, collectedOk, entriesOk}
+use Rattle.table.proofs.Asked.{asked, none-used, with-unused}
+use borrow.Author.Needs.{needs}
 use Rattle.table.proofs.entries.entries_ok.Statement.{statement}
 use Rattle.table.proofs.entries.entries_ok.Tie as tie
 
-abbrev Inv-loop2 : tie.InvT-loop2
-Inv-loop2 purses table archive count keys i e a k hit₀ s₀ hit s = (s ≤ i) × (hit ≡ among eqb k (take s keys))
+collected-ok-requires : tie.Need-collected-ok-requires
+collected-ok-requires c κs = search needs
 
-abbrev μ-loop2 : tie.MeasureT-loop2
-μ-loop2 purses table archive count keys i e a k hit₀ s₀ hit s = i - s
+places-ok-requires : tie.Need-places-ok-requires
+places-ok-requires c κs = search needs
 
-abbrev Inv-loop : tie.InvT-loop
-Inv-loop purses table archive count keys₀ i₀ keys i = (count ≤ 256) × (i ≤ count) × (all (entryIn purses table) (take i (archive .places)) ≡ true) × (distinct sameEntry (take i (archive .places)) ≡ true) × Keyed entryKey (archive .places) keys i
-
-abbrev μ-loop : tie.MeasureT-loop
-μ-loop purses table archive count keys₀ i₀ keys i = count - i
-
-abbrev Inv-loop3 : tie.InvT-loop3
-Inv-loop3 purses archive count i₀ zero ok₀ i ok = (zero ≡ zeroEntry) × ((ok && all isZeroEntry (drop i (archive .places))) ≡ all isZeroEntry (drop i₀ (archive .places)))
-
-abbrev μ-loop3 : tie.MeasureT-loop3
-μ-loop3 purses archive count i₀ zero ok₀ i ok = 256 - i
-
-long-table : (start : tie.Start Inv-loop2 μ-loop2 Inv-loop μ-loop Inv-loop3 μ-loop3) → length (start .args .t1) ≡ 32
-long-table start = start .good .0 .1 .0 .1
-
-long : (start : tie.Start Inv-loop2 μ-loop2 Inv-loop μ-loop Inv-loop3 μ-loop3) → length (start .args .t2 .places) ≡ 256
-long start = simp length-map at (start .good .1 .0 .1 .1 .0 .1 .0 .1)
-
-cast-count : tie.Need-cast-count Inv-loop2 μ-loop2 Inv-loop μ-loop Inv-loop3 μ-loop3
-cast-count c = search needs
-
-returns : tie.Need-returns Inv-loop2 μ-loop2 Inv-loop μ-loop Inv-loop3 μ-loop3
-unfolding entriesOk
-returns c = too-many (entryIn (c .before .args .purses) (c .before .args .t1)) isZeroEntry sameEntry (c .before .args .t2 .places) (c .before .args .t2 .count) (omega arith)
-
-loop-holds : tie.Need-loop-holds Inv-loop2 μ-loop2 Inv-loop μ-loop Inv-loop3 μ-loop3
-loop-holds c = (omega arith, omega arith, refl, refl, (refl, refl))
-
-mul-e : tie.Need-mul-e Inv-loop2 μ-loop2 Inv-loop μ-loop Inv-loop3 μ-loop3
-mul-e c = search needs
-
-element-copy-out-e :
-    tie.Need-element-copy-out-e Inv-loop2 μ-loop2 Inv-loop μ-loop Inv-loop3 μ-loop3
-element-copy-out-e c = search needs
-
-place-requires : tie.Need-place-requires Inv-loop2 μ-loop2 Inv-loop μ-loop Inv-loop3 μ-loop3
-place-requires c κs = search needs
-
-mul-by : tie.Need-mul-by Inv-loop2 μ-loop2 Inv-loop μ-loop Inv-loop3 μ-loop3
-mul-by c = search needs
-
-array-copy-out-by : tie.Need-array-copy-out-by Inv-loop2 μ-loop2 Inv-loop μ-loop Inv-loop3 μ-loop3
-array-copy-out-by c = search needs
-
-entry-beside-requires :
-    tie.Need-entry-beside-requires Inv-loop2 μ-loop2 Inv-loop μ-loop Inv-loop3 μ-loop3
-entry-beside-requires c κs = search needs
-
-returns-2 : tie.Need-returns-2 Inv-loop2 μ-loop2 Inv-loop μ-loop Inv-loop3 μ-loop3
-unfolding entriesOk
-returns-2 c =
-    let at-loop = c .before .before .before .before .before .before in
-    let start = at-loop .before .before in
-    let l = start .args .t2 .places in
-    let n = start .args .t2 .count in
-    let t = start .args .t1 in
-    let i = at-loop .loop .i in
-    let fits : n ≤ 256 = at-loop .loop .inv .0 in
-    let less : i < n = omega arith in
-    one-bad (entryIn (start .args .purses) t) isZeroEntry sameEntry l n zeroEntry (long start) fits i less
-    (entry-at (start .args .purses) t (getD l i zeroEntry) (c .before .before .before .place .result) _ (long-table start) (c .before .before .before .place .ensures) (c .before .entry-beside .ensures))
-    (not-true _ (c .if2 .taken))
-
-key-requires : tie.Need-key-requires Inv-loop2 μ-loop2 Inv-loop μ-loop Inv-loop3 μ-loop3
-key-requires c κs = search needs
-
-loop2-holds : tie.Need-loop2-holds Inv-loop2 μ-loop2 Inv-loop μ-loop Inv-loop3 μ-loop3
-loop2-holds c = (omega arith, refl)
-
-mul-hit : tie.Need-mul-hit Inv-loop2 μ-loop2 Inv-loop μ-loop Inv-loop3 μ-loop3
-mul-hit c = search needs
-
-array-read-hit : tie.Need-array-read-hit Inv-loop2 μ-loop2 Inv-loop μ-loop Inv-loop3 μ-loop3
-array-read-hit c = search needs
-
-add-s : tie.Need-add-s Inv-loop2 μ-loop2 Inv-loop μ-loop Inv-loop3 μ-loop3
-add-s c = search needs
-
-loop2-less : tie.Need-loop2-less Inv-loop2 μ-loop2 Inv-loop μ-loop Inv-loop3 μ-loop3
-loop2-less c = search needs
-
-loop2-again : tie.Need-loop2-again Inv-loop2 μ-loop2 Inv-loop μ-loop Inv-loop3 μ-loop3
-loop2-again c =
-    let at-loop = c .before .before .before .before .before .before .before .before .before in
-    let start = at-loop .before .before in
-    let l = start .args .t2 .places in
-    let n = start .args .t2 .count in
-    let t = start .args .t1 in
-    let i = at-loop .loop .i in
-    let at-loop2 = c .before in
-    let j = at-loop2 .loop2 .s in
-    let keys = at-loop .loop .keys in
-    let before : j < i = omega (arith, c .loop2-test .taken) in
-    let less : i < n = omega (arith, c .before .before .before .before .before .before .before .before .loop-test .taken) in
-    let fits : n ≤ 256 = at-loop .loop .inv .0 in (
-      omega (arith, before),
-      more-any eqb (c .before .before .key .result) keys j 0 (omega (arith, before, less, fits, at-loop .loop .inv .4 .0)) (at-loop2 .loop2 .inv .1) refl,
-    )
-
-is-before-requires :
-    tie.Need-is-before-requires Inv-loop2 μ-loop2 Inv-loop μ-loop Inv-loop3 μ-loop3
-is-before-requires c κs = search needs
-
-returns-3 : tie.Need-returns-3 Inv-loop2 μ-loop2 Inv-loop μ-loop Inv-loop3 μ-loop3
-unfolding entriesOk
-returns-3 c =
-    let at-loop = c .before .before .before .before .before .before .before .before .before .before .before in
-    let start = at-loop .before .before in
-    let l = start .args .t2 .places in
-    let n = start .args .t2 .count in
-    let t = start .args .t1 in
-    let i = at-loop .loop .i in
-    let at-loop2 = c .before .before .before in
-    let keys = at-loop .loop .keys in
-    let full : at-loop2 .loop2 .s ≡ i = omega (arith, at-loop2 .loop2 .inv .0, c .before .before .loop2-test .left) in
-    let again : c .before .if3 .again ≡ among sameEntry (getD l i zeroEntry) (take i l) =
-    ⊎-elim
-    (λ w. w .2 ∙ w .1 .ensures)
-    (λ w. w .1 ∙ sym (no-key sameEntry entryKey entry-key (getD l i zeroEntry) l keys i (at-loop2 .loop2 .s) (c .before .before .before .before .key .result) (at-loop .loop .inv .4) (c .before .before .before .before .key .ensures) full (at-loop2 .loop2 .inv .1) (w .0 .left)))
-    (c .before .if3 .came) in
-    let less : i < n = omega (arith, c .before .before .before .before .before .before .before .before .before .before .loop-test .taken) in
-    let fits : n ≤ 256 = at-loop .loop .inv .0 in
-    one-before (entryIn (start .args .purses) t) isZeroEntry sameEntry l n zeroEntry (long start) fits turn-entry i less again (c .if4 .taken)
-
-mul-keys : tie.Need-mul-keys Inv-loop2 μ-loop2 Inv-loop μ-loop Inv-loop3 μ-loop3
-mul-keys c = search needs
-
-array-write-keys : tie.Need-array-write-keys Inv-loop2 μ-loop2 Inv-loop μ-loop Inv-loop3 μ-loop3
-array-write-keys c = search needs
-
-add-i : tie.Need-add-i Inv-loop2 μ-loop2 Inv-loop μ-loop Inv-loop3 μ-loop3
-add-i c = search needs
-
-loop-less : tie.Need-loop-less Inv-loop2 μ-loop2 Inv-loop μ-loop Inv-loop3 μ-loop3
-loop-less c = search needs
-
-loop-again : tie.Need-loop-again Inv-loop2 μ-loop2 Inv-loop μ-loop Inv-loop3 μ-loop3
-loop-again c =
-    let at-loop = c .before .before .before .before .before .before .before .before .before .before .before in
-    let start = at-loop .before .before in
-    let l = start .args .t2 .places in
-    let n = start .args .t2 .count in
-    let t = start .args .t1 in
-    let i = at-loop .loop .i in
-    let at-loop2 = c .before .before .before in
-    let keys = at-loop .loop .keys in
-    let full : at-loop2 .loop2 .s ≡ i = omega (arith, at-loop2 .loop2 .inv .0, c .before .before .loop2-test .left) in
-    let again : c .before .if3 .again ≡ among sameEntry (getD l i zeroEntry) (take i l) =
-    ⊎-elim
-    (λ w. w .2 ∙ w .1 .ensures)
-    (λ w. w .1 ∙ sym (no-key sameEntry entryKey entry-key (getD l i zeroEntry) l keys i (at-loop2 .loop2 .s) (c .before .before .before .before .key .result) (at-loop .loop .inv .4) (c .before .before .before .before .key .ensures) full (at-loop2 .loop2 .inv .1) (w .0 .left)))
-    (c .before .if3 .came) in
-    let less : i < n = omega (arith, c .before .before .before .before .before .before .before .before .before .before .loop-test .taken) in
-    let fits : n ≤ 256 = at-loop .loop .inv .0 in
-    let inside : i < length l = omega (arith, less, fits, long start) in (
-      fits,
-      omega (arith, less),
-      one-more (entryIn (start .args .purses) t) isZeroEntry sameEntry l n zeroEntry (long start) fits i less (at-loop .loop .inv .2)
-          (entry-at (start .args .purses) t (getD l i zeroEntry) (c .before .before .before .before .before .before .before .before .place .result) _ (long-table start) (c .before .before .before .before .before .before .before .before .place .ensures) (c .before .before .before .before .before .before .entry-beside .ensures))
-          (not-false _ (c .before .before .before .before .before .if2 .left)),
-      apart-more sameEntry turn-entry l i i zeroEntry inside (at-loop .loop .inv .3) (sym again ∙ c .if4 .left) refl,
-      key-more sameEntry entryKey entry-key l keys i (c .before .before .before .before .key .result) zeroEntry (long start) (omega (arith, less, fits)) (at-loop .loop .inv .4) (c .before .before .before .before .key .ensures),
-    )
-
-zero-requires : tie.Need-zero-requires Inv-loop2 μ-loop2 Inv-loop μ-loop Inv-loop3 μ-loop3
-zero-requires c κs = search needs
-
-loop3-holds : tie.Need-loop3-holds Inv-loop2 μ-loop2 Inv-loop μ-loop Inv-loop3 μ-loop3
-loop3-holds c = (c .zero .ensures, refl)
-
-mul-e-2 : tie.Need-mul-e-2 Inv-loop2 μ-loop2 Inv-loop μ-loop Inv-loop3 μ-loop3
-mul-e-2 c = search needs
-
-element-copy-out-e-2 :
-    tie.Need-element-copy-out-e-2 Inv-loop2 μ-loop2 Inv-loop μ-loop Inv-loop3 μ-loop3
-element-copy-out-e-2 c = search needs
-
-same-requires : tie.Need-same-requires Inv-loop2 μ-loop2 Inv-loop μ-loop Inv-loop3 μ-loop3
-same-requires c κs = search needs
-
-add-i-2 : tie.Need-add-i-2 Inv-loop2 μ-loop2 Inv-loop μ-loop Inv-loop3 μ-loop3
-add-i-2 c = search needs
-
-loop3-less : tie.Need-loop3-less Inv-loop2 μ-loop2 Inv-loop μ-loop Inv-loop3 μ-loop3
-loop3-less c = search needs
-
-loop3-again : tie.Need-loop3-again Inv-loop2 μ-loop2 Inv-loop μ-loop Inv-loop3 μ-loop3
-unfolding isZeroEntry
-loop3-again c =
-    let at-loop3 = c .before .before .before in
-    let start = c .before .before .before .before .before .before .before .before in
-    let l = start .args .t2 .places in
-    let i = at-loop3 .loop3 .i in (
-      at-loop3 .loop3 .inv .0,
-      rest-more isZeroEntry l i zeroEntry (at-loop3 .loop3 .ok) (omega (arith, long start)) (at-loop3 .loop3 .inv .1)
-          (c .same .ensures ∙ ap (sameEntry (getD l i zeroEntry)) (at-loop3 .loop3 .inv .0)),
-    )
-
-returns-4 : tie.Need-returns-4 Inv-loop2 μ-loop2 Inv-loop μ-loop Inv-loop3 μ-loop3
-unfolding entriesOk
-returns-4 c =
-    let at-loop3 = c .before in
-    let at-loop = c .before .before .before .before in
-    let start = c .before .before .before .before .before .before in
-    let l = start .args .t2 .places in
-    let n = start .args .t2 .count in
-    let fits : n ≤ 256 = at-loop .loop .inv .0 in
-    none-bad (entryIn (start .args .purses) (start .args .t1)) isZeroEntry sameEntry l n zeroEntry (long start) fits (at-loop .loop .i) (omega arith) (at-loop .loop .inv .2) (at-loop .loop .inv .3)
-    (rest-end isZeroEntry l (at-loop3 .loop3 .i) (at-loop3 .loop3 .ok) (omega (arith, long start)) (at-loop3 .loop3 .inv .1))
+returns : tie.Need-returns
+unfolding collectedOk entriesOk
+returns c =
+    let start = c .before .before .before in
+    let f : Entry → Bool = entryIn (start .args .purses) (start .args .table) in
+    let l = start .args .archive .places in
+    let n = start .args .archive .count in
+    let used : c .before .if1 .beside ≡ asked f sameEntry l n =
+    ⊎-elim (λ w. w .1 ∙ none-used f sameEntry l n (w .0 .taken)) (λ w. w .2 ∙ w .1 .ensures) (c .before .if1 .came) in
+    rw (c .places-ok .ensures, used) (with-unused f sameEntry l n isZeroEntry)
 
 pub entries-ok-spec : {M : Type 1} → statement M
-entries-ok-spec =
-    tie.close
-    (tie.spec
-    Inv-loop2
-    μ-loop2
-    Inv-loop
-    μ-loop
-    Inv-loop3
-    μ-loop3
-    cast-count
-    returns
-    loop-holds
-    mul-e
-    element-copy-out-e
-    place-requires
-    mul-by
-    array-copy-out-by
-    entry-beside-requires
-    returns-2
-    key-requires
-    loop2-holds
-    mul-hit
-    array-read-hit
-    add-s
-    loop2-less
-    loop2-again
-    is-before-requires
-    returns-3
-    mul-keys
-    array-write-keys
-    add-i
-    loop-less
-    loop-again
-    zero-requires
-    loop3-holds
-    mul-e-2
-    element-copy-out-e-2
-    same-requires
-    add-i-2
-    loop3-less
-    loop3-again
-    returns-4)
+entries-ok-spec = tie.close (tie.spec collected-ok-requires places-ok-requires returns)

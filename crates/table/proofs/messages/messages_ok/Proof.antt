@@ -1,296 +1,33 @@
--- Each message is asked beside the records that it names, and held against those before it; then each unused place. The ways out are the
--- laws of Asked.
+-- Where none stands the used places ask nothing; else they are asked by `standing_ok`; and the unused ones beside them (`with-unused`).
 -- Assumes nothing.
-use Prim.Native.Nat.{ℕ, _≤_, _<_, _-_}
-use mathlib.Core.Path.{_≡_, refl, sym, ap, _∙_}
-use mathlib.Core.Bool.{Bool, true, false, _&&_}
+use mathlib.Core.Path.{_≡_, _∙_}
+use mathlib.Core.Bool.{Bool}
 use mathlib.Core.Logic.{⊎-elim}
-use lib.ListN.{length, length-map, take, drop, getD}
-use lib.Dec.{eqb}
-use native.Mathlib.Omega.{arith}
-use borrow.Author.Tests.{not-true, not-false}
-use borrow.Author.Needs.{needs}
-use Rattle.purse.specs.Lists.{all, among, distinct}
-use Rattle.purse.specs.Details.{zeroMessage, sameMessage}
-use Rattle.purse.proofs.Walks.{more-any, apart-more, rest-more, rest-end}
+use Rattle.purse.specs.declared.Message.{Message}
+use Rattle.purse.specs.Details.{sameMessage}
 use Rattle.rules.specs.Laid.{isZeroMessage}
-use Rattle.table.specs.Records.{messageIn, messagesOk}
-use Rattle.table.proofs.Same.{turn-message, messageKey, message-key}
-use Rattle.table.proofs.Asked.{too-many, one-bad, one-before, none-bad, one-more, Keyed, no-key, key-more}
-use Rattle.table.proofs.Lookups.{place-below, message-at}
+use Rattle.table.specs.Records.{messageIn, standingOk, messagesOk}
+use Rattle.table.proofs.Asked.{asked, none-used, with-unused}
+use borrow.Author.Needs.{needs}
 use Rattle.table.proofs.messages.messages_ok.Statement.{statement}
 use Rattle.table.proofs.messages.messages_ok.Tie as tie
 
-abbrev Inv-loop2 : tie.InvT-loop2
-Inv-loop2 purses table ether count keys i m a b k hit₀ s₀ hit s = (s ≤ i) × (hit ≡ among eqb k (take s keys))
+standing-ok-requires : tie.Need-standing-ok-requires
+standing-ok-requires c κs = search needs
 
-abbrev μ-loop2 : tie.MeasureT-loop2
-μ-loop2 purses table ether count keys i m a b k hit₀ s₀ hit s = i - s
+places-ok-requires : tie.Need-places-ok-requires
+places-ok-requires c κs = search needs
 
-abbrev Inv-loop : tie.InvT-loop
-Inv-loop purses table ether count keys₀ i₀ keys i = (count ≤ 256) × (i ≤ count) × (all (messageIn purses table) (take i (ether .places)) ≡ true) × (distinct sameMessage (take i (ether .places)) ≡ true) × Keyed messageKey (ether .places) keys i
-
-abbrev μ-loop : tie.MeasureT-loop
-μ-loop purses table ether count keys₀ i₀ keys i = count - i
-
-abbrev Inv-loop3 : tie.InvT-loop3
-Inv-loop3 purses ether count i₀ zero ok₀ i ok = (zero ≡ zeroMessage) × ((ok && all isZeroMessage (drop i (ether .places))) ≡ all isZeroMessage (drop i₀ (ether .places)))
-
-abbrev μ-loop3 : tie.MeasureT-loop3
-μ-loop3 purses ether count i₀ zero ok₀ i ok = 256 - i
-
-long-table : (start : tie.Start Inv-loop2 μ-loop2 Inv-loop μ-loop Inv-loop3 μ-loop3) → length (start .args .t1) ≡ 32
-long-table start = start .good .0 .1 .0 .1
-
-long : (start : tie.Start Inv-loop2 μ-loop2 Inv-loop μ-loop Inv-loop3 μ-loop3) → length (start .args .t2 .places) ≡ 256
-long start = simp length-map at (start .good .1 .0 .1 .1 .0 .1 .0 .1)
-
-cast-count : tie.Need-cast-count Inv-loop2 μ-loop2 Inv-loop μ-loop Inv-loop3 μ-loop3
-cast-count c = search needs
-
-returns : tie.Need-returns Inv-loop2 μ-loop2 Inv-loop μ-loop Inv-loop3 μ-loop3
-unfolding messagesOk
-returns c = too-many (messageIn (c .before .args .purses) (c .before .args .t1)) isZeroMessage sameMessage (c .before .args .t2 .places) (c .before .args .t2 .count) (omega arith)
-
-loop-holds : tie.Need-loop-holds Inv-loop2 μ-loop2 Inv-loop μ-loop Inv-loop3 μ-loop3
-loop-holds c = (omega arith, omega arith, refl, refl, (refl, refl))
-
-mul-m : tie.Need-mul-m Inv-loop2 μ-loop2 Inv-loop μ-loop Inv-loop3 μ-loop3
-mul-m c = search needs
-
-element-copy-out-m :
-    tie.Need-element-copy-out-m Inv-loop2 μ-loop2 Inv-loop μ-loop Inv-loop3 μ-loop3
-element-copy-out-m c = search needs
-
-place-requires : tie.Need-place-requires Inv-loop2 μ-loop2 Inv-loop μ-loop Inv-loop3 μ-loop3
-place-requires c κs = search needs
-
-place-requires-2 : tie.Need-place-requires-2 Inv-loop2 μ-loop2 Inv-loop μ-loop Inv-loop3 μ-loop3
-place-requires-2 c κs = search needs
-
-mul-payee : tie.Need-mul-payee Inv-loop2 μ-loop2 Inv-loop μ-loop Inv-loop3 μ-loop3
-mul-payee c = search needs
-
-array-copy-out-payee :
-    tie.Need-array-copy-out-payee Inv-loop2 μ-loop2 Inv-loop μ-loop Inv-loop3 μ-loop3
-array-copy-out-payee c = search needs
-
-mul-payer : tie.Need-mul-payer Inv-loop2 μ-loop2 Inv-loop μ-loop Inv-loop3 μ-loop3
-mul-payer c = search needs
-
-array-copy-out-payer :
-    tie.Need-array-copy-out-payer Inv-loop2 μ-loop2 Inv-loop μ-loop Inv-loop3 μ-loop3
-array-copy-out-payer c = search needs
-
-message-beside-requires :
-    tie.Need-message-beside-requires Inv-loop2 μ-loop2 Inv-loop μ-loop Inv-loop3 μ-loop3
-message-beside-requires c κs = search needs
-
-returns-2 : tie.Need-returns-2 Inv-loop2 μ-loop2 Inv-loop μ-loop Inv-loop3 μ-loop3
-unfolding messagesOk
-returns-2 c =
-    let at-loop = c .before .before .before .before .before .before .before .before in
-    let start = at-loop .before .before in
-    let l = start .args .t2 .places in
-    let n = start .args .t2 .count in
-    let t = start .args .t1 in
-    let i = at-loop .loop .i in
-    let fits : n ≤ 256 = at-loop .loop .inv .0 in
-    let less : i < n = omega arith in
-    one-bad (messageIn (start .args .purses) t) isZeroMessage sameMessage l n zeroMessage (long start) fits i less
-    (message-at (start .args .purses) t (getD l i zeroMessage) (c .before .before .before .before .before .place .result) (c .before .before .before .before .place2 .result) _ _ (long-table start) (c .before .before .before .before .before .place .ensures) (c .before .before .before .before .place2 .ensures) (c .before .message-beside .ensures))
-    (not-true _ (c .if2 .taken))
-
-key-requires : tie.Need-key-requires Inv-loop2 μ-loop2 Inv-loop μ-loop Inv-loop3 μ-loop3
-key-requires c κs = search needs
-
-loop2-holds : tie.Need-loop2-holds Inv-loop2 μ-loop2 Inv-loop μ-loop Inv-loop3 μ-loop3
-loop2-holds c = (omega arith, refl)
-
-mul-hit : tie.Need-mul-hit Inv-loop2 μ-loop2 Inv-loop μ-loop Inv-loop3 μ-loop3
-mul-hit c = search needs
-
-array-read-hit : tie.Need-array-read-hit Inv-loop2 μ-loop2 Inv-loop μ-loop Inv-loop3 μ-loop3
-array-read-hit c = search needs
-
-add-s : tie.Need-add-s Inv-loop2 μ-loop2 Inv-loop μ-loop Inv-loop3 μ-loop3
-add-s c = search needs
-
-loop2-less : tie.Need-loop2-less Inv-loop2 μ-loop2 Inv-loop μ-loop Inv-loop3 μ-loop3
-loop2-less c = search needs
-
-loop2-again : tie.Need-loop2-again Inv-loop2 μ-loop2 Inv-loop μ-loop Inv-loop3 μ-loop3
-loop2-again c =
-    let at-loop = c .before .before .before .before .before .before .before .before .before .before .before in
-    let start = at-loop .before .before in
-    let l = start .args .t2 .places in
-    let n = start .args .t2 .count in
-    let t = start .args .t1 in
-    let i = at-loop .loop .i in
-    let at-loop2 = c .before in
-    let j = at-loop2 .loop2 .s in
-    let keys = at-loop .loop .keys in
-    let before : j < i = omega (arith, c .loop2-test .taken) in
-    let less : i < n = omega (arith, c .before .before .before .before .before .before .before .before .before .before .loop-test .taken) in
-    let fits : n ≤ 256 = at-loop .loop .inv .0 in (
-      omega (arith, before),
-      more-any eqb (c .before .before .key .result) keys j 0 (omega (arith, before, less, fits, at-loop .loop .inv .4 .0)) (at-loop2 .loop2 .inv .1) refl,
-    )
-
-is-before-requires :
-    tie.Need-is-before-requires Inv-loop2 μ-loop2 Inv-loop μ-loop Inv-loop3 μ-loop3
-is-before-requires c κs = search needs
-
-returns-3 : tie.Need-returns-3 Inv-loop2 μ-loop2 Inv-loop μ-loop Inv-loop3 μ-loop3
-unfolding messagesOk
-returns-3 c =
-    let at-loop = c .before .before .before .before .before .before .before .before .before .before .before .before .before in
-    let start = at-loop .before .before in
-    let l = start .args .t2 .places in
-    let n = start .args .t2 .count in
-    let t = start .args .t1 in
-    let i = at-loop .loop .i in
-    let at-loop2 = c .before .before .before in
-    let keys = at-loop .loop .keys in
-    let full : at-loop2 .loop2 .s ≡ i = omega (arith, at-loop2 .loop2 .inv .0, c .before .before .loop2-test .left) in
-    let again : c .before .if3 .again ≡ among sameMessage (getD l i zeroMessage) (take i l) =
-    ⊎-elim
-    (λ w. w .2 ∙ w .1 .ensures)
-    (λ w. w .1 ∙ sym (no-key sameMessage messageKey message-key (getD l i zeroMessage) l keys i (at-loop2 .loop2 .s) (c .before .before .before .before .key .result) (at-loop .loop .inv .4) (c .before .before .before .before .key .ensures) full (at-loop2 .loop2 .inv .1) (w .0 .left)))
-    (c .before .if3 .came) in
-    let less : i < n = omega (arith, c .before .before .before .before .before .before .before .before .before .before .before .before .loop-test .taken) in
-    let fits : n ≤ 256 = at-loop .loop .inv .0 in
-    one-before (messageIn (start .args .purses) t) isZeroMessage sameMessage l n zeroMessage (long start) fits turn-message i less again (c .if4 .taken)
-
-mul-keys : tie.Need-mul-keys Inv-loop2 μ-loop2 Inv-loop μ-loop Inv-loop3 μ-loop3
-mul-keys c = search needs
-
-array-write-keys : tie.Need-array-write-keys Inv-loop2 μ-loop2 Inv-loop μ-loop Inv-loop3 μ-loop3
-array-write-keys c = search needs
-
-add-i : tie.Need-add-i Inv-loop2 μ-loop2 Inv-loop μ-loop Inv-loop3 μ-loop3
-add-i c = search needs
-
-loop-less : tie.Need-loop-less Inv-loop2 μ-loop2 Inv-loop μ-loop Inv-loop3 μ-loop3
-loop-less c = search needs
-
-loop-again : tie.Need-loop-again Inv-loop2 μ-loop2 Inv-loop μ-loop Inv-loop3 μ-loop3
-loop-again c =
-    let at-loop = c .before .before .before .before .before .before .before .before .before .before .before .before .before in
-    let start = at-loop .before .before in
-    let l = start .args .t2 .places in
-    let n = start .args .t2 .count in
-    let t = start .args .t1 in
-    let i = at-loop .loop .i in
-    let at-loop2 = c .before .before .before in
-    let keys = at-loop .loop .keys in
-    let full : at-loop2 .loop2 .s ≡ i = omega (arith, at-loop2 .loop2 .inv .0, c .before .before .loop2-test .left) in
-    let again : c .before .if3 .again ≡ among sameMessage (getD l i zeroMessage) (take i l) =
-    ⊎-elim
-    (λ w. w .2 ∙ w .1 .ensures)
-    (λ w. w .1 ∙ sym (no-key sameMessage messageKey message-key (getD l i zeroMessage) l keys i (at-loop2 .loop2 .s) (c .before .before .before .before .key .result) (at-loop .loop .inv .4) (c .before .before .before .before .key .ensures) full (at-loop2 .loop2 .inv .1) (w .0 .left)))
-    (c .before .if3 .came) in
-    let less : i < n = omega (arith, c .before .before .before .before .before .before .before .before .before .before .before .before .loop-test .taken) in
-    let fits : n ≤ 256 = at-loop .loop .inv .0 in
-    let inside : i < length l = omega (arith, less, fits, long start) in (
-      fits,
-      omega (arith, less),
-      one-more (messageIn (start .args .purses) t) isZeroMessage sameMessage l n zeroMessage (long start) fits i less (at-loop .loop .inv .2)
-          (message-at (start .args .purses) t (getD l i zeroMessage) (c .before .before .before .before .before .before .before .before .before .before .place .result) (c .before .before .before .before .before .before .before .before .before .place2 .result) _ _ (long-table start) (c .before .before .before .before .before .before .before .before .before .before .place .ensures) (c .before .before .before .before .before .before .before .before .before .place2 .ensures) (c .before .before .before .before .before .before .message-beside .ensures))
-          (not-false _ (c .before .before .before .before .before .if2 .left)),
-      apart-more sameMessage turn-message l i i zeroMessage inside (at-loop .loop .inv .3) (sym again ∙ c .if4 .left) refl,
-      key-more sameMessage messageKey message-key l keys i (c .before .before .before .before .key .result) zeroMessage (long start) (omega (arith, less, fits)) (at-loop .loop .inv .4) (c .before .before .before .before .key .ensures),
-    )
-
-zero-requires : tie.Need-zero-requires Inv-loop2 μ-loop2 Inv-loop μ-loop Inv-loop3 μ-loop3
-zero-requires c κs = search needs
-
-loop3-holds : tie.Need-loop3-holds Inv-loop2 μ-loop2 Inv-loop μ-loop Inv-loop3 μ-loop3
-loop3-holds c = (c .zero .ensures, refl)
-
-mul-m-2 : tie.Need-mul-m-2 Inv-loop2 μ-loop2 Inv-loop μ-loop Inv-loop3 μ-loop3
-mul-m-2 c = search needs
-
-element-copy-out-m-2 :
-    tie.Need-element-copy-out-m-2 Inv-loop2 μ-loop2 Inv-loop μ-loop Inv-loop3 μ-loop3
-element-copy-out-m-2 c = search needs
-
-same-requires : tie.Need-same-requires Inv-loop2 μ-loop2 Inv-loop μ-loop Inv-loop3 μ-loop3
-same-requires c κs = search needs
-
-add-i-2 : tie.Need-add-i-2 Inv-loop2 μ-loop2 Inv-loop μ-loop Inv-loop3 μ-loop3
-add-i-2 c = search needs
-
-loop3-less : tie.Need-loop3-less Inv-loop2 μ-loop2 Inv-loop μ-loop Inv-loop3 μ-loop3
-loop3-less c = search needs
-
-loop3-again : tie.Need-loop3-again Inv-loop2 μ-loop2 Inv-loop μ-loop Inv-loop3 μ-loop3
-unfolding isZeroMessage
-loop3-again c =
-    let at-loop3 = c .before .before .before in
-    let start = c .before .before .before .before .before .before .before .before in
-    let l = start .args .t2 .places in
-    let i = at-loop3 .loop3 .i in (
-      at-loop3 .loop3 .inv .0,
-      rest-more isZeroMessage l i zeroMessage (at-loop3 .loop3 .ok) (omega (arith, long start)) (at-loop3 .loop3 .inv .1)
-          (c .same .ensures ∙ ap (sameMessage (getD l i zeroMessage)) (at-loop3 .loop3 .inv .0)),
-    )
-
-returns-4 : tie.Need-returns-4 Inv-loop2 μ-loop2 Inv-loop μ-loop Inv-loop3 μ-loop3
-unfolding messagesOk
-returns-4 c =
-    let at-loop3 = c .before in
-    let at-loop = c .before .before .before .before in
-    let start = c .before .before .before .before .before .before in
-    let l = start .args .t2 .places in
-    let n = start .args .t2 .count in
-    let fits : n ≤ 256 = at-loop .loop .inv .0 in
-    none-bad (messageIn (start .args .purses) (start .args .t1)) isZeroMessage sameMessage l n zeroMessage (long start) fits (at-loop .loop .i) (omega arith) (at-loop .loop .inv .2) (at-loop .loop .inv .3)
-    (rest-end isZeroMessage l (at-loop3 .loop3 .i) (at-loop3 .loop3 .ok) (omega (arith, long start)) (at-loop3 .loop3 .inv .1))
+returns : tie.Need-returns
+unfolding standingOk messagesOk
+returns c =
+    let start = c .before .before .before in
+    let f : Message → Bool = messageIn (start .args .purses) (start .args .table) in
+    let l = start .args .ether .places in
+    let n = start .args .ether .count in
+    let used : c .before .if1 .beside ≡ asked f sameMessage l n =
+    ⊎-elim (λ w. w .1 ∙ none-used f sameMessage l n (w .0 .taken)) (λ w. w .2 ∙ w .1 .ensures) (c .before .if1 .came) in
+    rw (c .places-ok .ensures, used) (with-unused f sameMessage l n isZeroMessage)
 
 pub messages-ok-spec : {M : Type 1} → statement M
-messages-ok-spec =
-    tie.close
-    (tie.spec
-    Inv-loop2
-    μ-loop2
-    Inv-loop
-    μ-loop
-    Inv-loop3
-    μ-loop3
-    cast-count
-    returns
-    loop-holds
-    mul-m
-    element-copy-out-m
-    place-requires
-    place-requires-2
-    mul-payee
-    array-copy-out-payee
-    mul-payer
-    array-copy-out-payer
-    message-beside-requires
-    returns-2
-    key-requires
-    loop2-holds
-    mul-hit
-    array-read-hit
-    add-s
-    loop2-less
-    loop2-again
-    is-before-requires
-    returns-3
-    mul-keys
-    array-write-keys
-    add-i
-    loop-less
-    loop-again
-    zero-requires
-    loop3-holds
-    mul-m-2
-    element-copy-out-m-2
-    same-requires
-    add-i-2
-    loop3-less
-    loop3-again
-    returns-4)
+messages-ok-spec = tie.close (tie.spec standing-ok-requires places-ok-requires returns)
