@@ -19,7 +19,7 @@ desk-stays-requires c κs = search needs
 
 returns : tie.Need-returns
 unfolding deedOf
-returns c = simp (eq-eqb _ 0 (c .before .before .before .before .before .before .if1 .taken), c .doing .ensures, c .before .change-of .ensures, c .before .before .record .ensures)
+returns c = simp (eq-eqb _ 0 (c .before .before .before .before .before .if1 .taken), c .doing .ensures, c .before .change-of .ensures, c .before .before .record .ensures)
 
 returns-2 : tie.Need-returns-2
 unfolding deedOf
