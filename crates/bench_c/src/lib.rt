@@ -6,7 +6,7 @@ use desk::Figure;
 use purse::Purse;
 use walk_desk::written_at;
 use walk_table::copied;
-use walk_table::replaced;
+use walk_table::stored;
 use walk_table::table_ok;
 use steps::kept;
 use steps::opened;
@@ -54,11 +54,8 @@ pub extern "C" fn prs_opening(table: &mut [Purse], desk: &mut Desk, balances: &[
         × (now (table .exit) ≡ heldOpening (held (now (table .entry)) (now (desk .entry))) (now (balances .entry)) .held .table)
         × (now (desk .exit) ≡ heldOpening (held (now (table .entry)) (now (desk .entry))) (now (balances .entry)) .held .desk) ⌝ }
 {
-    let d = *desk;
-    let by = opened(copied(table), d, balances);
-    let left = replaced(table, d, by);
-    *desk = left.desk;
-    left.answer
+    let by = opened(copied(table), *desk, balances);
+    stored(table, desk, by)
 }
 
 // The whole events of a list, as many as there are places for answers, over a table and a desk that are both lent; how many were taken.
@@ -76,9 +73,7 @@ pub extern "C" fn prs_run(
         × (now (answers .exit) ≡ heldAnswers (held (now (table .entry)) (now (desk .entry))) (pieces (taken (now (list .entry)) (now (answers .entry))) (now (list .entry)))
         ++ drop (taken (now (list .entry)) (now (answers .entry))) (now (answers .entry))) ⌝ }
 {
-    let d = *desk;
-    let by = ran(copied(table), d, list, answers);
-    let left = replaced(table, d, kept(by));
-    *desk = left.desk;
+    let by = ran(copied(table), *desk, list, answers);
+    stored(table, desk, kept(by));
     by.taken
 }

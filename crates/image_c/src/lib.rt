@@ -3,7 +3,7 @@ use desk::Desk;
 use layout::Written;
 use purse::Purse;
 use walk_table::copied;
-use walk_table::replaced;
+use walk_table::stored;
 use steps::read_in;
 use steps::written;
 ghost use mathlib.Core.Path.{_≡_};
@@ -30,9 +30,6 @@ pub extern "C" fn prs_read(table: &mut [Purse], desk: &mut Desk, bytes: &[u8]) -
         × (now (table .exit) ≡ heldRead (held (now (table .entry)) (now (desk .entry))) (now (bytes .entry)) .held .table)
         × (now (desk .exit) ≡ heldRead (held (now (table .entry)) (now (desk .entry))) (now (bytes .entry)) .held .desk) ⌝ }
 {
-    let d = *desk;
-    let by = read_in(copied(table), d, bytes);
-    let left = replaced(table, d, by);
-    *desk = left.desk;
-    left.answer
+    let by = read_in(copied(table), *desk, bytes);
+    stored(table, desk, by)
 }

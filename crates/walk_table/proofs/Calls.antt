@@ -32,11 +32,15 @@ use Rattle.desk.specs.declared.Answered.{Answered}
 use Rattle.rules.specs.Laid.{heldOk}
 use Rattle.walk_table.specs.Lent.{held}
 use Rattle.walk_steps.proofs.Lent.{asks, returned}
-use Rattle.walk_table.proofs.Structs.{Table, table-makes, dval, aval}
+use Rattle.walk_table.proofs.Structs.{pval, Table, table-makes, dval, aval}
 use Rattle.desk.proofs.Desk as D
 use Rattle.desk.proofs.Desk.Laws as D′
 use Rattle.desk.proofs.Answered as R
 use Rattle.desk.proofs.Answered.Laws as R′
+use Rattle.purse.proofs.Purse as T
+use Rattle.purse.proofs.Purse.Laws as T′
+use Rattle.walk_table.proofs.each as each
+use Rattle.walk_table.proofs.each.Symbol.{name as #walk-table·each}
 use Rattle.walk_table.proofs.unused as unused
 use Rattle.walk_table.proofs.unused.Symbol.{name as #walk-table·unused}
 use Rattle.walk_table.proofs.table_of as table-of
@@ -50,6 +54,12 @@ module _ {M : Type 1} (𝓤 : URA M) (H : Heap 𝓤) (A : Atoms 𝓤) (at-mem : 
 
   abbrev pub to-unused : UnusedC .Ghost
   to-unused = ((tt, tt, tt, tt, tt), tt)
+
+  abbrev pub EachC : Contract 𝓤
+  EachC = tripleOf 𝓤 H A each.signature (each.spec 𝓤 H A at-mem run)
+
+  abbrev pub to-each : Purse → EachC .Ghost
+  to-each p = ((tt, tt, tt, (p, tt), (pval p ∷ [], tt)), tt)
 
   abbrev pub TableOfC : Contract 𝓤
   TableOfC = tripleOf 𝓤 H A table-of.signature (table-of.spec 𝓤 H A at-mem run)
@@ -71,6 +81,15 @@ module _ {M : Type 1} {𝓤 : URA M} {H : Heap 𝓤} {A : Atoms 𝓤} {K : Type 
   calls-unused t at-mem run fm known os k =
       nothing t $ nothing t $ asks t $ calls-at t fm (UnusedC 𝓤 H A at-mem run) known (to-unused 𝓤 H A at-mem run) os (λ v.
       returned t tt (‵ ftrue) Table _ (lasts unused.ended tt tt) (λ r ws. r ≡ replicate 32 zeroPurse) v (λ r ws e is. drop t $ drop t $ k v r is e))
+
+  pub calls-each : K → (at-mem : Memory → SProp 𝓤) (run : Routine → Fun 𝓤) → FmC 𝓤 H (W .laws) C → Triple 𝓤 (C #walk-table·each) (EachC 𝓤 H A at-mem run) → (p : Purse) → Is T.the-row p (pval p ∷ [])
+      → Opds K W (raw (EachC 𝓤 H A at-mem run .pre (to-each 𝓤 H A at-mem run p)) ∷ Γ) E xs (pval p ∷ [])
+      → ((v : Val) (r : List Purse) → Is Table r (v ∷ []) → r ≡ replicate 32 p → Seq K W Γ (lands C Λ E d v rest q))
+      → Seq K W Γ (runs C Λ E (seq (call #walk-table·each xs d) rest) q)
+  calls-each t at-mem run fm known p p-is os k =
+      nothing t $ owned t T.the-row (Is T.the-row) (LL.makes T.the-type T′.the-plain 𝓤 H A) p (pval p ∷ []) p-is $ fjoin t $ nothing t $ asks t $
+      calls-at t fm (EachC 𝓤 H A at-mem run) known (to-each 𝓤 H A at-mem run p) os (λ v.
+      returned t tt (‵ ftrue) Table _ (lasts each.ended tt (p, tt)) (λ r ws. r ≡ replicate 32 p) v (λ r ws e is. drop t $ drop t $ k v r is e))
 
   pub calls-table-of : K → (at-mem : Memory → SProp 𝓤) (run : Routine → Fun 𝓤) → FmC 𝓤 H (W .laws) C → Triple 𝓤 (C #walk-table·table-of) (TableOfC 𝓤 H A at-mem run) → (c : Answered) → Is R.the-row c (aval c ∷ [])
       → Opds K W (raw (TableOfC 𝓤 H A at-mem run .pre (to-table-of 𝓤 H A at-mem run c)) ∷ Γ) E xs (aval c ∷ [])

@@ -1,5 +1,4 @@
 -- What the walks cite of the structs: machine values, sizes, and what whoever holds a struct knows of its fields. Assumes nothing.
-use mathlib.Core.Path.{refl}
 use Prim.Native.Nat.{ℕ, _<_, _^_}
 use mathlib.Core.List.{[], _∷_, List}
 use lib.Dec.{T as Holds}
@@ -17,7 +16,6 @@ use denote.Struct.Laws as LL
 use Rattle.purse.specs.declared.Purse.{Purse}
 use Rattle.desk.specs.declared.Desk.{Desk}
 use Rattle.desk.specs.declared.Answered.{Answered}
-use Rattle.walk_table.specs.declared.Reply.{Reply}
 use Rattle.purse.proofs.Purse as T
 use Rattle.purse.proofs.Purse.Laws as T′
 use Rattle.desk.proofs.Desk as D
@@ -26,8 +24,6 @@ use Rattle.desk.proofs.Held as F
 use Rattle.desk.proofs.Held.Laws as F′
 use Rattle.desk.proofs.Answered as A
 use Rattle.desk.proofs.Answered.Laws as A′
-use Rattle.walk_table.proofs.Reply as Y
-use Rattle.walk_table.proofs.Reply.Laws as Y′
 
 -- ---- a record, and a table of 32
 abbrev pub pval : Purse → Val
@@ -53,16 +49,6 @@ module _ {M : Type 1} (𝓤 : URA M) (H : Heap 𝓤) (A : Atoms 𝓤) (W : Given
 -- ---- the desk
 abbrev pub dval : Desk → Val
 dval d = LL.val D.the-type D′.the-laws d
-
--- ---- a reply, and what whoever makes one shows
-abbrev pub reply : ℕ → Desk → Reply
-reply n d = record { answer = n; desk = d }
-
-abbrev pub yval : Reply → Val
-yval y = LL.val Y.the-type Y′.the-laws y
-
-pub reply-is : (n : ℕ) (d : Desk) → n < 2 ^ 8 → Is D.the-row d (dval d ∷ []) → Is Y.the-row (reply n d) (yval (reply n d) ∷ [])
-reply-is n d fits is = LL.owes Y.the-type Y′.the-laws (reply n d) ((refl, fits), (is, tt))
 
 -- ---- what is answered by value
 abbrev pub aval : Answered → Val

@@ -20,18 +20,18 @@ use Rattle.rules.specs.Bench.{called}
 use Rattle.rules.specs.Laid.{seen, isZeroPurse, heldOk, heldOpening, heldClaims}
 use Rattle.rules.proofs.Facts.{Table, is-table}
 use Rattle.rules.proofs.Places.{places-long, places-used, Obeys, obeys}
-use Rattle.walk_table.specs.Lent.{held, leftBy, copiedOf, replacedOf}
+use Rattle.walk_table.specs.Lent.{held, copiedOf, storedOf}
 
 -- where a call g refuses another length with 2, its answer on the copy, stored, is its answer on the lent table
-pub stored-whole : (g : Held → Answered) (l : List Purse) (d : Desk) → (eqb (length l) 32 ≡ false → g (held l d) ≡ record { answer = 2; held = held l d }) → replacedOf l d (g (held (copiedOf l) d)) ≡ leftBy (g (held l d))
-unfolding copiedOf replacedOf
-stored-whole g l d refuses = elim (which (eqb (length l) 32)) [ inl p ↦ rw p | inr p ↦ rw p (sym (ap leftBy (refuses p))) ]
+pub stored-whole : (g : Held → Answered) (l : List Purse) (d : Desk) → (eqb (length l) 32 ≡ false → g (held l d) ≡ record { answer = 2; held = held l d }) → storedOf l d (g (held (copiedOf l) d)) ≡ g (held l d)
+unfolding copiedOf storedOf
+stored-whole g l d refuses = elim (which (eqb (length l) 32)) [ inl p ↦ rw p | inr p ↦ rw p (sym (refuses p)) ]
 
 opening-refuses : (l : List Purse) (d : Desk) (ns : List ℕ) → eqb (length l) 32 ≡ false → heldOpening (held l d) ns ≡ record { answer = 2; held = held l d }
 unfolding heldOpening
 opening-refuses l d ns p = rw p
 
-pub opening-lent : (l : List Purse) (d : Desk) (ns : List ℕ) → replacedOf l d (heldOpening (held (copiedOf l) d) ns) ≡ leftBy (heldOpening (held l d) ns)
+pub opening-lent : (l : List Purse) (d : Desk) (ns : List ℕ) → storedOf l d (heldOpening (held (copiedOf l) d) ns) ≡ heldOpening (held l d) ns
 opening-lent l d ns = stored-whole (λ (h : Held). heldOpening h ns) l d (opening-refuses l d ns)
 
 -- a table that obeys the rules has 32 records

@@ -9,14 +9,7 @@ ghost use mathlib.Core.Path.{_≡_};
 ghost use lib.ListN.{replicate};
 ghost use Rattle.purse.specs.Purse.{zeroPurse};
 ghost use Rattle.rules.specs.Laid.{heldOk};
-ghost use Rattle.walk_table.specs.Lent.{held, copiedOf, replacedOf};
-
-// What an entry answers, and the desk as it then stands.
-#[repr(C)]
-pub struct Reply {
-    pub answer: u8,
-    pub desk: Desk,
-}
+ghost use Rattle.walk_table.specs.Lent.{held, copiedOf, storedOf};
 
 // A table of unused records.
 fn unused() -> [Purse; 32]
@@ -26,14 +19,21 @@ fn unused() -> [Purse; 32]
     [z; 32]
 }
 
+// A table of 32 times one record.
+fn each(p: Purse) -> [Purse; 32]
+    ensures { λ r. ⌜ r ≡ replicate 32 p ⌝ }
+{
+    [p; 32]
+}
+
 // The records of a lent table of 32. For another length a table of unused records, which breaks the rules.
 pub fn copied(table: &[Purse]) -> [Purse; 32]
     ensures { λ r. ⌜ r ≡ copiedOf (now (table .entry)) ⌝ }
 {
-    let mut all = unused();
     if table.len() != 32 {
-        return all;
+        return unused();
     }
+    let mut all = each(table[0]);
     let mut i = 0;
     while i < 32 {
         all[i] = table[i];
@@ -69,15 +69,15 @@ fn table_of(by: Answered) -> [Purse; 32]
     held.table
 }
 
-// What was answered by value is stored in a lent table of 32; another length is refused, and the table stays.
-pub fn replaced(table: &mut [Purse], desk: Desk, by: Answered) -> Reply
-    ensures { λ r. ⌜ (r ≡ replacedOf (now (table .entry)) desk by .reply) × (now (table .exit) ≡ replacedOf (now (table .entry)) desk by .table) ⌝ }
+// What was answered by value is stored in a lent table of 32 records and a lent desk; another length is refused, and both stay.
+pub fn stored(table: &mut [Purse], desk: &mut Desk, by: Answered) -> u8
+    ensures { λ r.
+        ⌜ (r ≡ storedOf (now (table .entry)) (now (desk .entry)) by .answer)
+        × (now (table .exit) ≡ storedOf (now (table .entry)) (now (desk .entry)) by .held .table)
+        × (now (desk .exit) ≡ storedOf (now (table .entry)) (now (desk .entry)) by .held .desk) ⌝ }
 {
     if table.len() != 32 {
-        return Reply {
-            answer: 2,
-            desk: desk,
-        };
+        return 2;
     }
     let from = table_of(by);
     let mut to = 0;
@@ -85,9 +85,6 @@ pub fn replaced(table: &mut [Purse], desk: Desk, by: Answered) -> Reply
         table[to] = from[to];
         to = to + 1;
     }
-    let d = by.held.desk;
-    Reply {
-        answer: by.answer,
-        desk: d,
-    }
+    *desk = by.held.desk;
+    by.answer
 }
