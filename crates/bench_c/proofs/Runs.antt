@@ -37,7 +37,7 @@ use Rattle.desk.specs.declared.Answered.{Answered}
 use Rattle.bench.specs.declared.Ran.{Ran}
 use Rattle.bench.specs.Runs.{pieces, taken}
 use Rattle.rules.specs.Laid.{heldOk, heldStep, heldRun, heldAnswers}
-use Rattle.walk_table.specs.Lent.{Left, held, copiedOf, replacedOf}
+use Rattle.walk_table.specs.Lent.{held, copiedOf, storedOf}
 use Rattle.walk_table.proofs.Whole.{long-is, read-whole}
 use Rattle.walk_table.proofs.Slices.{Shared}
 use Rattle.walk_table.proofs.Structs.{Table, table-makes, dval}
@@ -70,15 +70,12 @@ other-bad : (l : List Purse) (d : Desk) → eqb (length l) 32 ≡ false → held
 other-bad l d p = refute (heldOk (held l d)) (λ w. subst T (sym (ap (λ (n : ℕ). eqb n 32) (long-is l d w)) ∙ p) tt)
 
 -- ---- what is left of the bench
-abbrev pub heldOf : Left → Held
-heldOf z = held (z .table) (z .reply .desk)
+kept-so : (n : ℕ) (l : List Purse) (d : Desk) (ps : List (List ℕ)) → storedOf l d (record { answer = n; held = heldRun (held (copiedOf l) d) ps }) .held ≡ heldRun (held l d) ps
+unfolding copiedOf storedOf
+kept-so n l d ps = elim (which (eqb (length l) 32)) [ inl p ↦ rw p | inr p ↦ rw p (sym (bad-run (held l d) ps (other-bad l d p))) ]
 
-stored : (n : ℕ) (l : List Purse) (d : Desk) (ps : List (List ℕ)) → heldOf (replacedOf l d (record { answer = n; held = heldRun (held (copiedOf l) d) ps })) ≡ heldRun (held l d) ps
-unfolding copiedOf replacedOf
-stored n l d ps = elim (which (eqb (length l) 32)) [ inl p ↦ rw p | inr p ↦ rw p (sym (bad-run (held l d) ps (other-bad l d p))) ]
-
-pub run-stored : (l : List Purse) (d : Desk) (ps : List (List ℕ)) (c : Answered) → c .held ≡ heldRun (held (copiedOf l) d) ps → heldOf (replacedOf l d c) ≡ heldRun (held l d) ps
-run-stored l d ps c e = ap (λ (h : Held). heldOf (replacedOf l d (record { answer = c .answer; held = h }))) e ∙ stored (c .answer) l d ps
+pub run-stored : (l : List Purse) (d : Desk) (ps : List (List ℕ)) (c : Answered) → c .held ≡ heldRun (held (copiedOf l) d) ps → storedOf l d c .held ≡ heldRun (held l d) ps
+run-stored l d ps c e = ap (λ (h : Held). storedOf l d (record { answer = c .answer; held = h }) .held) e ∙ kept-so (c .answer) l d ps
 
 pub answers-lent : (l : List Purse) (d : Desk) (ps : List (List ℕ)) → heldAnswers (held (copiedOf l) d) ps ≡ heldAnswers (held l d) ps
 answers-lent l d ps = read-whole (λ (h : Held). heldAnswers h ps) l d (λ k m. answers-blind k m ps)

@@ -10,7 +10,7 @@ use Rattle.desk.specs.declared.Desk.{Desk}
 use Rattle.desk.specs.declared.Held.{Held}
 use Rattle.rules.specs.Laid.{heldOk}
 use Rattle.layout.specs.Calls.{writeNumber, heldWrite, heldBuffer, readNumber, heldRead}
-use Rattle.walk_table.specs.Lent.{held, leftBy, copiedOf, replacedOf}
+use Rattle.walk_table.specs.Lent.{held, copiedOf, storedOf}
 use Rattle.walk_table.proofs.Whole.{stored-whole, read-whole}
 
 write-refuses : (k : Held) (out : List ℕ) → heldOk k ≡ false → writeNumber k out ≡ 2
@@ -39,5 +39,5 @@ read-refuses : (l : List Purse) (d : Desk) (bs : List ℕ) → eqb (length l) 32
 unfolding heldRead
 read-refuses l d bs p = rw (number-refuses l d bs p)
 
-pub read-lent : (l : List Purse) (d : Desk) (bs : List ℕ) → replacedOf l d (heldRead (held (copiedOf l) d) bs) ≡ leftBy (heldRead (held l d) bs)
+pub read-lent : (l : List Purse) (d : Desk) (bs : List ℕ) → storedOf l d (heldRead (held (copiedOf l) d) bs) ≡ heldRead (held l d) bs
 read-lent l d bs = stored-whole (λ (h : Held). heldRead h bs) l d (read-refuses l d bs)
