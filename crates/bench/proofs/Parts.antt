@@ -4,7 +4,7 @@
 -- part.
 -- Assumes nothing.
 use Prim.Native.Nat.{ℕ}
-use mathlib.Core.Path.{_≡_}
+use mathlib.Core.Path.{_≡_, refl, ap, _∙_}
 use mathlib.Core.Bool.{Bool, true, _&&_}
 use mathlib.Core.List.{List}
 use lib.ListN.{length, getD, set, drop}
@@ -21,6 +21,7 @@ use Rattle.desk.specs.declared.Entry.{Entry}
 use Rattle.desk.specs.declared.Ether.{Ether}
 use Rattle.desk.specs.declared.Archive.{Archive}
 use Rattle.desk.specs.declared.Changed.{Changed}
+use Rattle.desk.specs.declared.Desk.{Desk}
 use Rattle.desk.specs.declared.Held.{Held}
 use Rattle.desk.specs.declared.Answered.{Answered}
 use Rattle.desk.specs.Desk.{added, takenOut, stored}
@@ -57,6 +58,11 @@ long-parts h w =
       long isZeroMessage 256 (h .desk .ether .count) (h .desk .ether .places) (and-r ps ms both),
     )
 
+-- what is asked for, told and settled is the step of an event at its record
+pub acted : (p : Purse) (d : Desk) (v : Event) (i : ℕ) (m : Message) (a : Asked) (t : Turned) (c : Change) → i ≡ deliveredAt v → m ≡ getD (d .ether .places) i zeroMessage → a ≡ asked (record { purses = d .purses; messages = d .ether .count; entries = d .archive .count; message = m }) v → t ≡ toldAt (headOf p) a → c ≡ changeOf p a (t .message) → settled p d t c ≡ actOn p d v
+unfolding actOn
+acted p d v i m a t c place message ask told change = rw (change, told, ask, message, place)
+
 module _ (h : Held) (k : ℕ) (a : Asked) (t : Turned) where
   -- the record in place k
   abbrev here : Purse
@@ -67,8 +73,10 @@ module _ (h : Held) (k : ℕ) (a : Asked) (t : Turned) where
   settledAt = putBack h k (settled here (h .desk) t (changeOf here a (t .message)))
 
   pub by-asked : (v : Event) (p : Purse) (m : Message) → k ≡ placeOf v → p ≡ here → m ≡ getD (h .desk .ether .places) (deliveredAt v) zeroMessage → a ≡ asked (record { purses = h .desk .purses; messages = h .desk .ether .count; entries = h .desk .archive .count; message = m }) v → t ≡ toldAt (headOf p) a → settledAt ≡ byRecord h v
-  unfolding byRecord actOn
-  by-asked v p m place read message ask told = rw (told, ask, message, read, place)
+  unfolding byRecord
+  by-asked v p m place read message ask told =
+      ap (putBack h k) (acted here (h .desk) v _ m a t _ refl message ask (told ∙ ap (λ (q : Purse). toldAt (headOf q) a) read) refl)
+      ∙ ap (λ (i : ℕ). putBack h i (actOn (getD (h .table) i zeroPurse) (h .desk) v)) place
 
   pub when-refused : (t .answer ≡ 0 → ⊥) → record { answer = t .answer; held = h } ≡ settledAt
   unfolding settled

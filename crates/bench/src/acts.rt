@@ -21,7 +21,7 @@ ghost use lib.ListN.{getD};
 ghost use Rattle.purse.specs.Tests.{first};
 ghost use Rattle.purse.specs.Details.{zeroMessage};
 ghost use Rattle.card.specs.Act.{refusedAt, turnBy};
-ghost use Rattle.bench.specs.Acts.{placeIn, placeOf, deliveredAt, startTests, deliverTests, purseTests, loseTests, toTell, toCollect, toLose, asked, orFull, toldAt, toSend, entryOf, changeOf, carriedOut, settled, actOn};
+ghost use Rattle.bench.specs.Acts.{placeIn, placeOf, deliveredAt, startTests, deliverTests, purseTests, loseTests, toTell, toCollect, toLose, asked, orFull, toldAt, toSend, entryOf, changeOf, carriedOut, actOn};
 
 // The place of a name in the table of 32; 0 for a name above 31.
 fn place_in(name: Name) -> usize
@@ -317,27 +317,8 @@ fn carry_out(q: Purse, desk: Desk, change: Change) -> Acted
     }
 }
 
-// What the card did is settled where its number is 0: the record is put together, and the change made. A refusal gives the record and the
-// desk back.
-fn settle(p: Purse, desk: Desk, t: Turned, change: Change) -> Acted
-    ensures { λ r. ⌜ r ≡ settled p desk t change ⌝ }
-{
-    let n = t.answer;
-    if n == 0 {
-        let head = t.head;
-        let log = t.log;
-        let q = card::record(p, head, log);
-        carry_out(q, desk, change)
-    } else {
-        Acted {
-            answer: n,
-            purse: p,
-            desk: desk,
-        }
-    }
-}
-
-// The step of an event at its record p and the desk.
+// The step of an event at its record p and the desk. Where the card's number is 0, the record is put together and the change made; a
+// refusal gives the record and the desk back.
 pub fn act(p: Purse, desk: Desk, event: Event) -> Acted
     ensures { λ r. ⌜ r ≡ actOn p desk event ⌝ }
 {
@@ -352,5 +333,17 @@ pub fn act(p: Purse, desk: Desk, event: Event) -> Acted
     let t = tell(Head::of(p), asked);
     let m = t.message;
     let change = change_of(p, asked, m);
-    settle(p, desk, t, change)
+    let n = t.answer;
+    if n == 0 {
+        let head = t.head;
+        let log = t.log;
+        let q = card::record(p, head, log);
+        carry_out(q, desk, change)
+    } else {
+        Acted {
+            answer: n,
+            purse: p,
+            desk: desk,
+        }
+    }
 }
