@@ -4,7 +4,7 @@
 -- part.
 -- Assumes nothing.
 use Prim.Native.Nat.{ℕ}
-use mathlib.Core.Path.{_≡_}
+use mathlib.Core.Path.{_≡_, refl, ap, _∙_}
 use mathlib.Core.Bool.{Bool, true, _&&_}
 use mathlib.Core.List.{List}
 use lib.ListN.{length, getD, set, drop}
@@ -21,6 +21,7 @@ use Rattle.desk.specs.declared.Entry.{Entry}
 use Rattle.desk.specs.declared.Ether.{Ether}
 use Rattle.desk.specs.declared.Archive.{Archive}
 use Rattle.desk.specs.declared.Changed.{Changed}
+use Rattle.desk.specs.declared.Desk.{Desk}
 use Rattle.desk.specs.declared.Held.{Held}
 use Rattle.desk.specs.declared.Answered.{Answered}
 use Rattle.desk.specs.Desk.{added, takenOut, stored}
@@ -57,36 +58,48 @@ long-parts h w =
       long isZeroMessage 256 (h .desk .ether .count) (h .desk .ether .places) (and-r ps ms both),
     )
 
-module _ (h : Held) (k : ℕ) (t : Turned) (c : Change) where
+-- what is asked for, told and settled is the step of an event at its record
+pub acted : (p : Purse) (d : Desk) (v : Event) (i : ℕ) (m : Message) (a : Asked) (t : Turned) (c : Change) → i ≡ deliveredAt v → m ≡ getD (d .ether .places) i zeroMessage → a ≡ asked (record { purses = d .purses; messages = d .ether .count; entries = d .archive .count; message = m }) v → t ≡ toldAt (headOf p) a → c ≡ changeOf p a (t .message) → settled p d t c ≡ actOn p d v
+unfolding actOn
+acted p d v i m a t c place message ask told change = rw (change, told, ask, message, place)
+
+module _ (h : Held) (k : ℕ) (a : Asked) (t : Turned) where
   -- the record in place k
   abbrev here : Purse
   here = getD (h .table) k zeroPurse
 
   -- what the card made of it, settled and put back
   abbrev pub settledAt : Answered
-  settledAt = putBack h k (settled here (h .desk) t c)
+  settledAt = putBack h k (settled here (h .desk) t (changeOf here a (t .message)))
 
-  pub by-asked : (v : Event) (p : Purse) (m : Message) (a : Asked) → k ≡ placeOf v → p ≡ here → m ≡ getD (h .desk .ether .places) (deliveredAt v) zeroMessage → a ≡ asked (record { purses = h .desk .purses; messages = h .desk .ether .count; entries = h .desk .archive .count; message = m }) v → t ≡ toldAt (headOf p) a → c ≡ changeOf p a (t .message) → settledAt ≡ byRecord h v
-  unfolding byRecord actOn
-  by-asked v p m a place read message ask told change = rw (change, told, ask, message, read, place)
+  pub by-asked : (v : Event) (p : Purse) (m : Message) → k ≡ placeOf v → p ≡ here → m ≡ getD (h .desk .ether .places) (deliveredAt v) zeroMessage → a ≡ asked (record { purses = h .desk .purses; messages = h .desk .ether .count; entries = h .desk .archive .count; message = m }) v → t ≡ toldAt (headOf p) a → settledAt ≡ byRecord h v
+  unfolding byRecord
+  by-asked v p m place read message ask told =
+      ap (putBack h k) (acted here (h .desk) v _ m a t _ refl message ask (told ∙ ap (λ (q : Purse). toldAt (headOf q) a) read) refl)
+      ∙ ap (λ (i : ℕ). putBack h i (actOn (getD (h .table) i zeroPurse) (h .desk) v)) place
 
   pub when-refused : (t .answer ≡ 0 → ⊥) → record { answer = t .answer; held = h } ≡ settledAt
   unfolding settled
   when-refused z = rw (ne-eqb (t .answer) 0 z) (stays h (t .answer) k)
 
-  module _ (z : t .answer ≡ 0) (q : Purse) (r : q ≡ recordAfter here (t .head) (t .log)) where
+  -- done, at the record p that was read: q is put together of it, and c is changed
+  module _ (z : t .answer ≡ 0) (p : Purse) (read : p ≡ here) (q : Purse) (put : q ≡ recordAfter p (t .head) (t .log)) (c : Change) (does : c ≡ changeOf p a (t .message)) where
+    done : settledAt ≡ putBack h k (carriedOut q (h .desk) c)
+    unfolding settled
+    done = rw (eq-eqb (t .answer) 0 z, does, put, read)
+
     pub when-nothing : c ≡ change.Nothing → record { answer = t .answer; held = record { table = set (h .table) k q; desk = h .desk } } ≡ settledAt
-    unfolding settled carriedOut
-    when-nothing e = rw (eq-eqb (t .answer) 0 z, e, z, r)
+    unfolding carriedOut
+    when-nothing e = rw (done, e, z)
 
     pub when-sent : (m : Message) (x : Changed) (n : ℕ) → c ≡ change.Send m → x ≡ added (h .desk .ether) m → n ≡ after 0 (x .lost) 1 → record { answer = n; held = record { table = set (h .table) k q; desk = withEther (h .desk) (x .ether) } } ≡ settledAt
-    unfolding settled carriedOut
-    when-sent m x n e s f = rw (eq-eqb (t .answer) 0 z, e, f, s, r)
+    unfolding carriedOut
+    when-sent m x n e s f = rw (done, e, f, s)
 
     pub when-lost : (i : ℕ) (x : Changed) → c ≡ change.Lose i → x ≡ takenOut (h .desk .ether) i → record { answer = t .answer; held = record { table = set (h .table) k q; desk = withEther (h .desk) (x .ether) } } ≡ settledAt
-    unfolding settled carriedOut
-    when-lost i x e s = rw (eq-eqb (t .answer) 0 z, e, z, s, r)
+    unfolding carriedOut
+    when-lost i x e s = rw (done, e, z, s)
 
-    pub when-stored : (y : Entry) (a : Archive) → c ≡ change.Store y → a ≡ stored (h .desk .archive) y → record { answer = t .answer; held = record { table = set (h .table) k q; desk = withArchive (h .desk) a } } ≡ settledAt
-    unfolding settled carriedOut
-    when-stored y a e s = rw (eq-eqb (t .answer) 0 z, e, z, s, r)
+    pub when-stored : (y : Entry) (b : Archive) → c ≡ change.Store y → b ≡ stored (h .desk .archive) y → record { answer = t .answer; held = record { table = set (h .table) k q; desk = withArchive (h .desk) b } } ≡ settledAt
+    unfolding carriedOut
+    when-stored y b e s = rw (done, e, z, s)

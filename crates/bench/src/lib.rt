@@ -8,17 +8,18 @@ use purse::Message;
 use purse::Name;
 use purse::Purse;
 
+mod asks; // asks.rt: what an event asks for: the tests that read the desk
 mod acts; // acts.rt: what an event does at one record and the desk
 mod events; // events.rt: an event's bytes read
 mod open; // open.rt: a bench opened
 mod runs; // runs.rt: many events
 mod step; // step.rt: an event at the whole bench
 
-pub use acts::ask;
 pub use acts::change_of;
-pub use acts::delivered_at;
-pub use acts::place_of;
 pub use acts::tell;
+pub use asks::ask;
+pub use asks::delivered_at;
+pub use asks::place_of;
 pub use events::decode;
 pub use open::opening;
 pub use runs::run;

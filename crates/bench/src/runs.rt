@@ -2,11 +2,11 @@
 use crate::Change;
 use crate::Ran;
 use crate::Seen;
-use crate::acts::ask;
 use crate::acts::change_of;
-use crate::acts::delivered_at;
-use crate::acts::place_of;
 use crate::acts::tell;
+use crate::asks::ask;
+use crate::asks::delivered_at;
+use crate::asks::place_of;
 use crate::events::decode;
 use desk::Desk;
 use desk::Held;

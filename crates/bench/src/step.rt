@@ -1,6 +1,6 @@
 // An event at the whole bench: the rules first, then the one record that the event names.
 use crate::acts::act;
-use crate::acts::place_of;
+use crate::asks::place_of;
 use crate::events::decode;
 use desk::Answered;
 use desk::Held;

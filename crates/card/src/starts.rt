@@ -77,7 +77,10 @@ pub(crate) fn start_from(h: Head, own: Name, other: Name, seq: Seq, amount: Amou
 {
     let n = from_number(h, own, other, amount);
     if n == 0 {
-        quiet(begun(h, 1, from_details(h, own, other, seq, amount)), LogChange::Nothing)
+        quiet(
+            begun(h, 1, from_details(h, own, other, seq, amount)),
+            LogChange::Nothing,
+        )
     } else {
         refused(h, n)
     }

@@ -1,6 +1,12 @@
--- `bench::acts::act` meets its contract: what is seen of the desk, what is asked by that, told to the card and settled, as in the definition.
+-- `bench::acts::act` meets its contract: what is seen of the desk, what is asked by that, told to the card and settled by the card's number,
+-- as in the definition.
 -- Assumes nothing.
-use Rattle.bench.specs.Acts.{actOn}
+use mathlib.Core.Path.{ap, _∙_}
+use Rattle.purse.specs.declared.Purse.{Purse}
+use Rattle.refusals.specs.declared.Head.{Head}
+use Rattle.bench.specs.Acts.{toldAt, carriedOut, settled}
+use Rattle.bench.proofs.Parts.{acted}
+use borrow.Author.Tests.{ne-eqb, eq-eqb}
 use borrow.Author.Needs.{needs}
 use Rattle.bench.proofs.acts.act.Statement.{statement}
 use Rattle.bench.proofs.acts.act.Tie as tie
@@ -23,12 +29,43 @@ tell-requires c κs = search needs
 change-of-requires : tie.Need-change-of-requires
 change-of-requires c κs = search needs
 
-settle-requires : tie.Need-settle-requires
-settle-requires c κs = search needs
+record-requires : tie.Need-record-requires
+record-requires c κs = search needs
+
+carry-out-requires : tie.Need-carry-out-requires
+carry-out-requires c κs = search needs
 
 returns : tie.Need-returns
-unfolding actOn
-returns c = rw (c .settle .ensures, c .before .change-of .ensures, c .before .before .before .tell .ensures, c .before .before .before .before .of .ensures, c .before .before .before .before .before .ask .ensures, c .before .before .before .before .before .before .message-at .ensures, c .before .before .before .before .before .before .before .delivered-at .ensures)
+unfolding settled
+returns c =
+    let changed = c .before .before .before .before in
+    let told = changed .before .before in
+    let headed = told .before in
+    let wants = headed .before in
+    let read = wants .before in
+    let placed = read .before in
+    let start = placed .before in
+    let step = acted (start .args .p) (start .args .desk) (start .args .event) _ _ (wants .ask .result) (told .tell .result) (changed .change-of .result) (placed .delivered-at .ensures) (read .message-at .ensures) (wants .ask .ensures)
+    (told .tell .ensures ∙ ap (λ (d : Head). toldAt d (wants .ask .result)) (headed .of .ensures)) (changed .change-of .ensures)
+    in
+    c .carry-out .ensures
+    ∙ (ap (λ (q : Purse). carriedOut q (start .args .desk) (changed .change-of .result)) (c .before .record .ensures)
+    ∙ (rw (eq-eqb (told .tell .result .answer) 0 (c .before .before .before .if1 .taken)) at step))
+
+returns-2 : tie.Need-returns-2
+unfolding settled
+returns-2 c =
+    let changed = c .before in
+    let told = changed .before .before in
+    let headed = told .before in
+    let wants = headed .before in
+    let read = wants .before in
+    let placed = read .before in
+    let start = placed .before in
+    let step = acted (start .args .p) (start .args .desk) (start .args .event) _ _ (wants .ask .result) (told .tell .result) (changed .change-of .result) (placed .delivered-at .ensures) (read .message-at .ensures) (wants .ask .ensures)
+    (told .tell .ensures ∙ ap (λ (d : Head). toldAt d (wants .ask .result)) (headed .of .ensures)) (changed .change-of .ensures)
+    in
+    rw (ne-eqb (told .tell .result .answer) 0 (c .if1 .left)) at step
 
 pub act-spec : {M : Type 1} → statement M
 act-spec =
@@ -40,5 +77,7 @@ act-spec =
     of-requires
     tell-requires
     change-of-requires
-    settle-requires
-    returns)
+    record-requires
+    carry-out-requires
+    returns
+    returns-2)

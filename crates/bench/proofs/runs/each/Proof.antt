@@ -4,13 +4,10 @@
 use Rattle.bench.proofs.Filling.{Going, going-start, going-on, going-end}
 use Rattle.bench.proofs.ByRecord.{place-below}
 use Rattle.bench.proofs.Parts.{bench, long-parts, settledAt, by-asked, when-refused, when-nothing, when-sent, when-lost, when-stored}
-use Rattle.purse.specs.declared.Purse.{Purse}
 use Rattle.refusals.specs.declared.Head.{Head}
 use Rattle.card.specs.declared.Turned.{Turned}
-use Rattle.card.specs.Act.{recordAfter}
 use Rattle.bench.specs.declared.Asked.{Asked}
-use Rattle.bench.specs.declared.Change.{Change}
-use Rattle.bench.specs.Acts.{deliveredAt, toldAt, changeOf, byRecord}
+use Rattle.bench.specs.Acts.{deliveredAt, toldAt, byRecord}
 use Rattle.purse.proofs.Lists.{at-any}
 use Rattle.purse.specs.Details.{zeroMessage}
 use Rattle.purse.specs.Purse.{zeroPurse}
@@ -167,10 +164,8 @@ loop-again c =
     let h : Held = bench (at-loop .loop .table) (start .args .held .desk .purses) (at-loop .loop .ether) (at-loop .loop .archive) in
     let v : Event = read .decode .result in
     let k : ℕ = placed .place-of .result in
-    let p : Purse = getD (h .table) k zeroPurse in
     let a : Asked = wants .ask .result in
     let t : Turned = told .tell .result in
-    let x : Change = changeOf p a (t .message) in
     let ok = at-loop .loop .inv .ok in
     let below : k < 32 = rw (placed .place-of .ensures) (place-below v) in
     let inside : k < length (h .table) = omega (arith, below, long-parts h ok .0) in
@@ -184,22 +179,21 @@ loop-again c =
     (seen .if1 .came)
     ∙ ap (λ (j : ℕ). getD (h .desk .ether .places) j zeroMessage) (asked .delivered-at .ensures)
     in
-    let settles : settledAt h k t x ≡ byRecord h v =
-    by-asked h k t x v _ (seen .if1 .m) a (placed .place-of .ensures) (at-any (h .table) k _ zeroPurse inside) m (wants .ask .ensures)
+    let settles : settledAt h k a t ≡ byRecord h v =
+    by-asked h k a t v _ (seen .if1 .m) (placed .place-of .ensures) (at-any (h .table) k _ zeroPurse inside) m (wants .ask .ensures)
     (told .tell .ensures ∙ ap (λ (d : Head). toldAt d a) (headed .of .ensures))
-    (ap (λ (q : Purse). changeOf q a (t .message)) (sym (at-any (h .table) k _ zeroPurse inside)))
     in
     let s : Answered = record { answer = c .if2 .answer; held = bench (c .if2 .table) (start .args .held .desk .purses) (c .if2 .ether) (c .if2 .archive) } in
-    let done : s ≡ settledAt h k t x =
+    let done : s ≡ settledAt h k a t =
     ⊎-elim
-    (λ w. rw (w .7, w .8, w .9, w .10) (when-nothing h k t x (omega (arith, w .0 .taken)) (w .4 .result) (w .4 .ensures ∙ ap (λ (q : Purse). recordAfter q (t .head) (t .log)) (at-any (h .table) k _ zeroPurse inside)) (sym (w .3 .ensures ∙ ap (λ (q : Purse). changeOf q a (t .message)) (at-any (h .table) k _ zeroPurse inside)) ∙ w .6 .given .1)))
+    (λ w. rw (w .7, w .8, w .9, w .10) (when-nothing h k a t (omega (arith, w .0 .taken)) _ (at-any (h .table) k _ zeroPurse inside) _ (w .4 .ensures) _ (w .3 .ensures) (w .6 .given .1)))
     (⊎-elim
-    (λ w. rw (w .11, w .12, w .13, w .14) (when-sent h k t x (omega (arith, w .0 .taken)) (w .4 .result) (w .4 .ensures ∙ ap (λ (q : Purse). recordAfter q (t .head) (t .log)) (at-any (h .table) k _ zeroPurse inside)) _ (w .8 .result) _ (sym (w .3 .ensures ∙ ap (λ (q : Purse). changeOf q a (t .message)) (at-any (h .table) k _ zeroPurse inside)) ∙ w .6 .given .1) (w .8 .ensures) (w .10 .ensures)))
+    (λ w. rw (w .11, w .12, w .13, w .14) (when-sent h k a t (omega (arith, w .0 .taken)) _ (at-any (h .table) k _ zeroPurse inside) _ (w .4 .ensures) _ (w .3 .ensures) _ (w .8 .result) _ (w .6 .given .1) (w .8 .ensures) (w .10 .ensures)))
     (⊎-elim
-    (λ w. rw (w .10, w .11, w .12, w .13) (when-lost h k t x (omega (arith, w .0 .taken)) (w .4 .result) (w .4 .ensures ∙ ap (λ (q : Purse). recordAfter q (t .head) (t .log)) (at-any (h .table) k _ zeroPurse inside)) _ (w .8 .result) (sym (w .3 .ensures ∙ ap (λ (q : Purse). changeOf q a (t .message)) (at-any (h .table) k _ zeroPurse inside)) ∙ w .6 .given .1) (w .8 .ensures)))
+    (λ w. rw (w .10, w .11, w .12, w .13) (when-lost h k a t (omega (arith, w .0 .taken)) _ (at-any (h .table) k _ zeroPurse inside) _ (w .4 .ensures) _ (w .3 .ensures) _ (w .8 .result) (w .6 .given .1) (w .8 .ensures)))
     (⊎-elim
-    (λ w. rw (w .9, w .10, w .11, w .12) (when-stored h k t x (omega (arith, w .0 .taken)) (w .4 .result) (w .4 .ensures ∙ ap (λ (q : Purse). recordAfter q (t .head) (t .log)) (at-any (h .table) k _ zeroPurse inside)) _ (w .8 .result) (sym (w .3 .ensures ∙ ap (λ (q : Purse). changeOf q a (t .message)) (at-any (h .table) k _ zeroPurse inside)) ∙ w .6 .given .1) (w .8 .ensures)))
-    (λ w. rw (w .1, w .2, w .3, w .4) (when-refused h k t x (w .0 .left))))))
+    (λ w. rw (w .9, w .10, w .11, w .12) (when-stored h k a t (omega (arith, w .0 .taken)) _ (at-any (h .table) k _ zeroPurse inside) _ (w .4 .ensures) _ (w .3 .ensures) _ (w .8 .result) (w .6 .given .1) (w .8 .ensures)))
+    (λ w. rw (w .1, w .2, w .3, w .4) (when-refused h k a t (w .0 .left))))))
     (c .if2 .came)
     in
     let twelve : 12 * i + 12 - 12 * i ≡ 12 = omega arith in

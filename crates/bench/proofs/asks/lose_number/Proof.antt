@@ -1,11 +1,11 @@
--- `bench::acts::lose_number` meets its contract: tests taken one by one find the first that applies.
+-- `bench::asks::lose_number` meets its contract: tests taken one by one find the first that applies.
 -- Assumes nothing.
 use mathlib.Core.Path.{refl}
 use Rattle.bench.specs.Acts.{loseTests}
 use Rattle.purse.proofs.Tests.{walks}
 use borrow.Author.Needs.{needs}
-use Rattle.bench.proofs.acts.lose_number.Statement.{statement}
-use Rattle.bench.proofs.acts.lose_number.Tie as tie
+use Rattle.bench.proofs.asks.lose_number.Statement.{statement}
+use Rattle.bench.proofs.asks.lose_number.Tie as tie
 
 wide-requires : tie.Need-wide-requires
 wide-requires c κs = search needs

@@ -1,9 +1,9 @@
--- `bench::acts::place_of` meets its contract: by the kind of the event.
+-- `bench::asks::place_of` meets its contract: by the kind of the event.
 -- Assumes nothing.
 use Rattle.bench.specs.Acts.{placeOf}
 use borrow.Author.Needs.{needs}
-use Rattle.bench.proofs.acts.place_of.Statement.{statement}
-use Rattle.bench.proofs.acts.place_of.Tie as tie
+use Rattle.bench.proofs.asks.place_of.Statement.{statement}
+use Rattle.bench.proofs.asks.place_of.Tie as tie
 
 enum-told : tie.Need-enum-told
 enum-told c = search needs

@@ -1,9 +1,9 @@
--- `bench::acts::losing` meets its contract: the number decides.
+-- `bench::asks::losing` meets its contract: the number decides.
 -- Assumes nothing.
 use Rattle.bench.specs.Acts.{toLose}
 use borrow.Author.Tests.{ne-eqb, eq-eqb}
-use Rattle.bench.proofs.acts.losing.Statement.{statement}
-use Rattle.bench.proofs.acts.losing.Tie as tie
+use Rattle.bench.proofs.asks.losing.Statement.{statement}
+use Rattle.bench.proofs.asks.losing.Tie as tie
 
 returns : tie.Need-returns
 unfolding toLose

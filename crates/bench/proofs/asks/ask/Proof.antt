@@ -1,10 +1,10 @@
--- `bench::acts::ask` meets its contract: each arm hands the numbers of its tests to the function of its kind, which is the definition's
+-- `bench::asks::ask` meets its contract: each arm hands the numbers of its tests to the function of its kind, which is the definition's
 -- line for that kind.
 -- Assumes nothing.
 use Rattle.bench.specs.Acts.{asked}
 use borrow.Author.Needs.{needs}
-use Rattle.bench.proofs.acts.ask.Statement.{statement}
-use Rattle.bench.proofs.acts.ask.Tie as tie
+use Rattle.bench.proofs.asks.ask.Statement.{statement}
+use Rattle.bench.proofs.asks.ask.Tie as tie
 
 enum-told : tie.Need-enum-told
 enum-told c = search needs

@@ -1,11 +1,11 @@
--- `bench::acts::deliver_number` meets its contract: tests taken one by one find the first that applies.
+-- `bench::asks::deliver_number` meets its contract: tests taken one by one find the first that applies.
 -- Assumes nothing.
 use mathlib.Core.Path.{refl}
 use Rattle.bench.specs.Acts.{deliverTests}
 use Rattle.purse.proofs.Tests.{walks}
 use borrow.Author.Needs.{needs}
-use Rattle.bench.proofs.acts.deliver_number.Statement.{statement}
-use Rattle.bench.proofs.acts.deliver_number.Tie as tie
+use Rattle.bench.proofs.asks.deliver_number.Statement.{statement}
+use Rattle.bench.proofs.asks.deliver_number.Tie as tie
 
 tested-requires : tie.Need-tested-requires
 tested-requires c κs = search needs

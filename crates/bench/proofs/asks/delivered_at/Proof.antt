@@ -1,9 +1,9 @@
--- `bench::acts::delivered_at` meets its contract: by the kind of the event.
+-- `bench::asks::delivered_at` meets its contract: by the kind of the event.
 -- Assumes nothing.
 use Rattle.bench.specs.Acts.{deliveredAt}
 use borrow.Author.Needs.{needs}
-use Rattle.bench.proofs.acts.delivered_at.Statement.{statement}
-use Rattle.bench.proofs.acts.delivered_at.Tie as tie
+use Rattle.bench.proofs.asks.delivered_at.Statement.{statement}
+use Rattle.bench.proofs.asks.delivered_at.Tie as tie
 
 enum-told : tie.Need-enum-told
 enum-told c = search needs

@@ -1,9 +1,9 @@
--- `bench::acts::telling` meets its contract: the number decides.
+-- `bench::asks::telling` meets its contract: the number decides.
 -- Assumes nothing.
 use Rattle.bench.specs.Acts.{toTell}
 use borrow.Author.Tests.{ne-eqb, eq-eqb}
-use Rattle.bench.proofs.acts.telling.Statement.{statement}
-use Rattle.bench.proofs.acts.telling.Tie as tie
+use Rattle.bench.proofs.asks.telling.Statement.{statement}
+use Rattle.bench.proofs.asks.telling.Tie as tie
 
 returns : tie.Need-returns
 unfolding toTell

@@ -1,9 +1,9 @@
--- `bench::acts::collecting` meets its contract: the number decides.
+-- `bench::asks::collecting` meets its contract: the number decides.
 -- Assumes nothing.
 use Rattle.bench.specs.Acts.{toCollect}
 use borrow.Author.Tests.{ne-eqb, eq-eqb}
-use Rattle.bench.proofs.acts.collecting.Statement.{statement}
-use Rattle.bench.proofs.acts.collecting.Tie as tie
+use Rattle.bench.proofs.asks.collecting.Statement.{statement}
+use Rattle.bench.proofs.asks.collecting.Tie as tie
 
 returns : tie.Need-returns
 unfolding toCollect

@@ -1,11 +1,11 @@
--- `bench::acts::start_number` meets its contract: tests taken one by one find the first that applies.
+-- `bench::asks::start_number` meets its contract: tests taken one by one find the first that applies.
 -- Assumes nothing.
 use mathlib.Core.Path.{refl}
 use Rattle.bench.specs.Acts.{startTests}
 use Rattle.purse.proofs.Tests.{walks}
 use borrow.Author.Needs.{needs}
-use Rattle.bench.proofs.acts.start_number.Statement.{statement}
-use Rattle.bench.proofs.acts.start_number.Tie as tie
+use Rattle.bench.proofs.asks.start_number.Statement.{statement}
+use Rattle.bench.proofs.asks.start_number.Tie as tie
 
 tested-requires : tie.Need-tested-requires
 tested-requires c κs = search needs

@@ -1,9 +1,9 @@
--- `bench::acts::place_in` meets its contract: a name of 31 or less is its own place.
+-- `bench::asks::place_in` meets its contract: a name of 31 or less is its own place.
 -- Assumes nothing.
 use borrow.Author.Tests.{le-leb, lt-leb}
 use borrow.Author.Needs.{needs}
-use Rattle.bench.proofs.acts.place_in.Statement.{statement}
-use Rattle.bench.proofs.acts.place_in.Tie as tie
+use Rattle.bench.proofs.asks.place_in.Statement.{statement}
+use Rattle.bench.proofs.asks.place_in.Tie as tie
 
 cast-result : tie.Need-cast-result
 cast-result c = search needs
