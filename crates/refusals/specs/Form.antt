@@ -21,8 +21,8 @@ headed h =
     record {
       balance = h .balance;
       next = h .next;
-      status = h .status;
       details = h .details;
+      status = h .status;
       log = [];
       logged = h .logged;
     }

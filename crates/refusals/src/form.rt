@@ -13,13 +13,14 @@ ghost use Rattle.purse.specs.Details.{sameDetails, legal, named, asPayer, asPay
 ghost use Rattle.purse.specs.Purse.{ceiling, logPlaces, idleOk, busyOk, logOk, wellFormed};
 ghost use Rattle.refusals.specs.Form.{headed, logging, unused, headOk};
 
-// A purse without its log.
+// The head of a record: a purse without its log, and `most`, the ceiling of its balance.
 pub struct Head {
     pub balance: Amount,
     pub next: Seq,
-    pub status: u8,
     pub details: Details,
+    pub status: u8,
     pub logged: u8,
+    pub most: u32,
 }
 
 // An amount from 1 to the ceiling.
@@ -85,9 +86,9 @@ pub fn is_log_unused(log: [Details; 8]) -> bool
     ok
 }
 
-// What the status asks: zero details of an idle purse, its own side and its money of a busy one. `most` is what the purse may hold.
-fn is_status_ok(h: Head, most: u32, own: Name) -> bool
-    requires { ⌜ most ≡ ceiling (headed h) ⌝ }
+// What the status asks: zero details of an idle purse, its own side and its money of a busy one.
+fn is_status_ok(h: Head, own: Name) -> bool
+    requires { ⌜ h .most ≡ ceiling (headed h) ⌝ }
     ensures { λ r. ⌜ r ≡ (idleOk (headed h) || busyOk own (headed h)) ⌝ }
 {
     let d = h.details;
@@ -99,7 +100,7 @@ fn is_status_ok(h: Head, most: u32, own: Name) -> bool
         1 => running & ((d.amount.0 <= h.balance.0) & is_payer(d, own, next)),
         2 => {
             let after = h.balance.0 as u64 + d.amount.0 as u64;
-            running & ((after <= most as u64) & is_payee(d, own, next))
+            running & ((after <= h.most as u64) & is_payee(d, own, next))
         }
         3 => running & is_payer(d, own, next),
         4..=255 => false,
@@ -107,14 +108,14 @@ fn is_status_ok(h: Head, most: u32, own: Name) -> bool
 }
 
 // The rules that read no log.
-fn is_head_ok(h: Head, most: u32, own: Name) -> bool
-    requires { ⌜ most ≡ ceiling (headed h) ⌝ }
+fn is_head_ok(h: Head, own: Name) -> bool
+    requires { ⌜ h .most ≡ ceiling (headed h) ⌝ }
     ensures { λ r. ⌜ r ≡ headOk own (headed h) ⌝ }
 {
-    (h.balance.0 <= most)
+    (h.balance.0 <= h.most)
         & (1 <= h.next.0)
         & (h.logged <= Purse::LOG_PLACES)
-        & is_status_ok(h, most, own)
+        & is_status_ok(h, own)
 }
 
 // A place of the log that is used: an entry, and not the running details.
@@ -162,10 +163,11 @@ fn is_log_ok(log: [Details; 8], logged: u8, running: Details, next: Seq, own: Na
         ok = ok & (is_place_ok(e, running, next, own) & is_absent(log, i, e));
         i += 1;
     }
-    while i < 8 {
-        let e = log[i];
+    let mut rest = used;
+    while rest < 8 {
+        let e = log[rest];
         ok = ok & is_unused(e);
-        i += 1;
+        rest += 1;
     }
     ok
 }
@@ -180,12 +182,12 @@ pub fn well_formed(p: Purse, own: Name) -> bool
     let h = Head {
         balance: balance,
         next: next,
-        status: p.status,
         details: running,
+        status: p.status,
         logged: p.logged,
+        most: p.ceiling(),
     };
-    let most = p.ceiling();
-    let head = is_head_ok(h, most, own);
+    let head = is_head_ok(h, own);
     if p.logged == 0 {
         let log = p.log;
         head & is_log_unused(log)

@@ -1,4 +1,4 @@
--- `card::rules::is_absent` meets its contract: the invariant: so far the answer is that of the places passed. Assumes nothing.
+-- `refusals::form::is_absent` meets its contract: the invariant: so far the answer is that of the places passed. Assumes nothing.
 use native.Mathlib.Omega.{arith}
 use native.Mathlib.Numerals.{add-one}
 use mathlib.Core.Path.{_≡_}

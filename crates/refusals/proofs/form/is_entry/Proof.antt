@@ -1,4 +1,4 @@
--- `card::rules::is_entry` meets its contract: by what its three tests promise. Assumes nothing.
+-- `refusals::form::is_entry` meets its contract: by what its three tests promise. Assumes nothing.
 use Rattle.purse.specs.Details.{entryOk}
 use borrow.Author.Needs.{needs}
 use Rattle.refusals.proofs.form.is_entry.Statement.{statement}

@@ -1,4 +1,4 @@
--- `card::rules::is_legal` meets its contract: by computing the definition. Assumes nothing.
+-- `refusals::form::is_legal` meets its contract: by computing the definition. Assumes nothing.
 use mathlib.Core.Path.{refl}
 use Rattle.purse.specs.Details.{legal}
 use Rattle.refusals.proofs.form.is_legal.Statement.{statement}

@@ -22,10 +22,10 @@ abbrev μ-loop : tie.MeasureT-loop
 μ-loop logged running next own log used ok₀ i₀ ok i = used - i
 
 abbrev Inv-loop2 : tie.InvT-loop2
-Inv-loop2 logged log used ok₀ i₀ ok i = (ok && all unused (drop i log)) ≡ (ok₀ && all unused (drop i₀ log))
+Inv-loop2 logged log used ok₀ i rest₀ ok rest = (ok && all unused (drop rest log)) ≡ (ok₀ && all unused (drop rest₀ log))
 
 abbrev μ-loop2 : tie.MeasureT-loop2
-μ-loop2 logged log used ok₀ i₀ ok i = 8 - i
+μ-loop2 logged log used ok₀ i rest₀ ok rest = 8 - rest
 
 -- the log, its count and what its rules read, as they are handed in
 abbrev told : tie.Start Inv-loop μ-loop Inv-loop2 μ-loop2 → Purse
@@ -80,8 +80,8 @@ array-copy-out-e-2 c = search needs
 is-unused-requires : tie.Need-is-unused-requires Inv-loop μ-loop Inv-loop2 μ-loop2
 is-unused-requires c κs = search needs
 
-add-i-2 : tie.Need-add-i-2 Inv-loop μ-loop Inv-loop2 μ-loop2
-add-i-2 c = search needs
+add-rest : tie.Need-add-rest Inv-loop μ-loop Inv-loop2 μ-loop2
+add-rest c = search needs
 
 loop2-less : tie.Need-loop2-less Inv-loop μ-loop Inv-loop2 μ-loop2
 loop2-less c = search needs
@@ -90,7 +90,7 @@ loop2-again : tie.Need-loop2-again Inv-loop μ-loop Inv-loop2 μ-loop2
 loop2-again c =
     let at-loop2 = c .before .before .before in
     let start = at-loop2 .before .before .before .before in
-    rest-more unused (start .args .t1) (at-loop2 .loop2 .i) zeroDetails (at-loop2 .loop2 .ok) (omega (arith, long start)) (at-loop2 .loop2 .inv) (c .is-unused .ensures)
+    rest-more unused (start .args .t1) (at-loop2 .loop2 .rest) zeroDetails (at-loop2 .loop2 .ok) (omega (arith, long start)) (at-loop2 .loop2 .inv) (c .is-unused .ensures)
 
 returns : tie.Need-returns Inv-loop μ-loop Inv-loop2 μ-loop2
 returns c =
@@ -100,8 +100,8 @@ returns c =
     let l = start .args .t1 in
     let used = at-loop .before .used-places .result in
     let full : at-loop .loop .i ≡ used = omega arith in
-    let rest : at-loop2 .loop2 .ok ≡ (at-loop .loop .ok && all unused (drop (at-loop .loop .i) l)) =
-    rest-end unused l (at-loop2 .loop2 .i) (at-loop2 .loop2 .ok) (omega (arith, long start)) (at-loop2 .loop2 .inv) in
+    let rest : at-loop2 .loop2 .ok ≡ (at-loop .loop .ok && all unused (drop used l)) =
+    rest-end unused l (at-loop2 .loop2 .rest) (at-loop2 .loop2 .ok) (omega (arith, long start)) (at-loop2 .loop2 .inv) in
     rest ∙ rw (at-loop .loop .inv .2, full) (sym (log-parts (start .args .own) (told start) used (long start) (at-loop .before .used-places .ensures)))
 
 pub is-log-ok-spec : {M : Type 1} → statement M
@@ -125,7 +125,7 @@ is-log-ok-spec =
     mul-e-2
     array-copy-out-e-2
     is-unused-requires
-    add-i-2
+    add-rest
     loop2-less
     loop2-again
     returns)

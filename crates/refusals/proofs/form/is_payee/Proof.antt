@@ -1,4 +1,4 @@
--- `card::rules::is_payee` meets its contract: by computing the definition. Assumes nothing.
+-- `refusals::form::is_payee` meets its contract: by computing the definition. Assumes nothing.
 use mathlib.Core.Path.{refl}
 use Rattle.purse.specs.Details.{asPayee}
 use Rattle.refusals.proofs.form.is_payee.Statement.{statement}

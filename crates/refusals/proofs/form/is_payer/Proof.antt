@@ -1,4 +1,4 @@
--- `card::rules::is_payer` meets its contract: by computing the definition. Assumes nothing.
+-- `refusals::form::is_payer` meets its contract: by computing the definition. Assumes nothing.
 use mathlib.Core.Path.{refl}
 use Rattle.purse.specs.Details.{asPayer}
 use Rattle.refusals.proofs.form.is_payer.Statement.{statement}

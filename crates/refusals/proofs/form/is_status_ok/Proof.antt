@@ -23,6 +23,9 @@ cast-after-2 c = search needs
 add-after : tie.Need-add-after
 add-after c = search needs
 
+cast-result : tie.Need-cast-result
+cast-result c = search needs
+
 is-payee-requires : tie.Need-is-payee-requires
 is-payee-requires c κs = search needs
 
@@ -42,9 +45,9 @@ returns-2 c =
 
 returns-3 : tie.Need-returns-3
 returns-3 c =
-    let start = c .before .before .before .before .before .before .before .before in
+    let start = c .before .before .before .before .before .before .before .before .before in
     simp
-    (at-epv (start .args .own) (headed (start .args .h)) (c .before .before .before .match .keys3), c .before .before .before .before .before .is-named .ensures, start .pre, c .is-payee .ensures)
+    (at-epv (start .args .own) (headed (start .args .h)) (c .before .before .before .before .match .keys3), c .before .before .before .before .before .before .is-named .ensures, start .pre, c .is-payee .ensures)
 
 returns-4 : tie.Need-returns-4
 returns-4 c =
@@ -68,6 +71,7 @@ is-status-ok-spec =
     cast-after
     cast-after-2
     add-after
+    cast-result
     is-payee-requires
     is-payer-requires-2
     returns

@@ -111,7 +111,7 @@ returns c =
     let full : at-loop .loop .i ≡ many = omega arith in
     let rest : at-loop2 .loop2 .ok ≡ (at-loop .loop .ok && all isZeroPurse (drop (at-loop .loop .i) t)) =
     rest-end isZeroPurse t (at-loop2 .loop2 .i) (at-loop2 .loop2 .ok) (omega (arith, long start)) (at-loop2 .loop2 .inv) in
-    rest ∙ rw (at-loop .loop .inv .2, full) (sym (records-parts (start .args .purses) t many (long start) (at-loop .before .at-most .ensures)))
+    rest ∙ rw (at-loop .loop .inv .2, full) (sym (records-parts (start .args .purses) t many (long start) (omega (arith, at-loop .before .at-most .ensures))))
 
 pub records-ok-spec : {M : Type 1} → statement M
 records-ok-spec =
