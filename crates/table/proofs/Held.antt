@@ -17,7 +17,7 @@ use Rattle.purse.specs.declared.Details.{Details}
 use Rattle.purse.specs.declared.Message.{Message}
 use Rattle.purse.specs.declared.Purse.{Purse}
 use Rattle.purse.specs.Lists.{every, all, distinct}
-use Rattle.purse.specs.Details.{zeroMessage, sameDetails, sameMessage}
+use Rattle.purse.specs.Details.{sameDetails, sameMessage}
 use Rattle.purse.specs.Purse.{zeroPurse, wellFormed}
 use Rattle.purse.proofs.Bools.{and-l, and-r, and-i, which, together}
 use Rattle.purse.proofs.Lists.{every-at, every-all, all-at, all-places, all-each, all-both}

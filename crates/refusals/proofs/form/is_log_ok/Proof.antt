@@ -1,8 +1,8 @@
 -- `refusals::form::is_log_ok` meets its contract: each turn of the first loop asks a used place more, each turn of the second leaves an unused
 -- one less, and that is the whole log (`log-parts`). Assumes nothing.
-use Prim.Native.Nat.{ℕ, _≤_, _<_, _-_}
-use mathlib.Core.Path.{_≡_, refl, ap, sym, _∙_}
-use mathlib.Core.Bool.{Bool, true, _&&_}
+use Prim.Native.Nat.{_≤_, _-_}
+use mathlib.Core.Path.{_≡_, refl, sym, _∙_}
+use mathlib.Core.Bool.{true, _&&_}
 use lib.ListN.{length, drop}
 use native.Mathlib.Omega.{arith}
 use Rattle.purse.specs.declared.Purse.{Purse}

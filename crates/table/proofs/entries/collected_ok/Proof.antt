@@ -3,9 +3,9 @@
 -- Assumes nothing.
 use Prim.Native.Nat.{ℕ, _≤_, _<_, _-_}
 use mathlib.Core.Path.{_≡_, refl, sym, ap, _∙_}
-use mathlib.Core.Bool.{Bool, true, false, _&&_}
+use mathlib.Core.Bool.{true}
 use mathlib.Core.Logic.{⊎-elim}
-use lib.ListN.{length, length-map, take, drop, getD}
+use lib.ListN.{length, length-map, take, getD}
 use lib.Dec.{eqb}
 use native.Mathlib.Omega.{arith}
 use borrow.Author.Tests.{not-true, not-false}
@@ -16,7 +16,7 @@ use Rattle.desk.specs.Desk.{zeroEntry, sameEntry}
 use Rattle.table.specs.Records.{entryIn, collectedOk}
 use Rattle.table.proofs.Same.{turn-entry, entryKey, entry-key}
 use Rattle.table.proofs.Asked.{too-many, one-bad, one-before, none-bad, one-more, Keyed, no-key, key-more}
-use Rattle.table.proofs.Lookups.{place-below, entry-at}
+use Rattle.table.proofs.Lookups.{entry-at}
 use Rattle.table.proofs.entries.collected_ok.Statement.{statement}
 use Rattle.table.proofs.entries.collected_ok.Tie as tie
 

@@ -1,7 +1,7 @@
 -- Each turn of the loop leaves one place less to ask; the count is asked beside them.
 -- Assumes nothing.
-use Prim.Native.Nat.{_≤_, _-_}
-use mathlib.Core.Path.{_≡_, refl, sym}
+use Prim.Native.Nat.{_-_}
+use mathlib.Core.Path.{_≡_, refl}
 use mathlib.Core.Bool.{_&&_}
 use lib.ListN.{length, length-map, drop}
 use native.Mathlib.Omega.{arith}

@@ -2,9 +2,9 @@
 -- Assumes nothing.
 use Prim.Native.Nat.{ℕ, _≤_, _<_, _-_}
 use mathlib.Core.Path.{_≡_, refl, sym, ap, _∙_}
-use mathlib.Core.Bool.{Bool, true, false, _&&_}
+use mathlib.Core.Bool.{true}
 use mathlib.Core.Logic.{⊎-elim}
-use lib.ListN.{length, length-map, take, drop, getD}
+use lib.ListN.{length, length-map, take, getD}
 use lib.Dec.{eqb}
 use native.Mathlib.Omega.{arith}
 use borrow.Author.Tests.{not-true, not-false}
@@ -15,7 +15,7 @@ use Rattle.purse.proofs.Walks.{more-any, apart-more}
 use Rattle.table.specs.Records.{messageIn, standingOk}
 use Rattle.table.proofs.Same.{turn-message, messageKey, message-key}
 use Rattle.table.proofs.Asked.{too-many, one-bad, one-before, none-bad, one-more, Keyed, no-key, key-more}
-use Rattle.table.proofs.Lookups.{place-below, message-at}
+use Rattle.table.proofs.Lookups.{message-at}
 use Rattle.table.proofs.messages.standing_ok.Statement.{statement}
 use Rattle.table.proofs.messages.standing_ok.Tie as tie
 

@@ -1,10 +1,10 @@
 -- Each turn of the first loop asks a purse's record more, each turn of the second leaves an unused one less, and that is every record
 -- (`records-parts`).
 -- Assumes nothing.
-use Prim.Native.Nat.{ℕ, _≤_, _<_, _-_}
+use Prim.Native.Nat.{_≤_, _<_, _-_}
 use mathlib.Core.Path.{_≡_, refl, sym, ap, _∙_}
 use mathlib.Core.Bool.{true, _&&_}
-use lib.ListN.{length, drop, getD}
+use lib.ListN.{length, drop}
 use native.Mathlib.Omega.{arith}
 use borrow.Author.Needs.{needs}
 use Rattle.purse.specs.declared.Purse.{Purse}
