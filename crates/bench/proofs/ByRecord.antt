@@ -43,9 +43,9 @@ use Rattle.rules.specs.Steps.{Answer, withPurse, sending, carried, archiving, t
 use Rattle.rules.specs.Laid.{laid, seen, heldOk, heldStep}
 use Rattle.rules.proofs.Places.{seen-ok, laid-seen}
 use Rattle.rules.proofs.Facts.{Table, is-table}
-use Rattle.bench.specs.declared.Asked.the-variants as asks
-use Rattle.bench.specs.declared.Change.the-variants as change
-use Rattle.bench.specs.Acts.{placeIn, placeOf, deliveredAt, startTests, deliverTests, purseTests, loseTests, toTell, toCollect, toLose, asked, orFull, toldAt, toSend, changeOf, carriedOut, refusedOn, settled, answeredOn, actOn, putBack, byRecord}
+use Rattle.acts.specs.declared.Asked.the-variants as asks
+use Rattle.acts.specs.declared.Change.the-variants as change
+use Rattle.acts.specs.Acts.{placeIn, placeOf, deliveredAt, startTests, deliverTests, purseTests, loseTests, toTell, toCollect, toLose, asked, orFull, toldAt, toSend, changeOf, carriedOut, refusedOn, settled, answeredOn, actOn, putBack, byRecord}
 
 -- an answer on the lists, laid out
 abbrev shown : Answer → Answered

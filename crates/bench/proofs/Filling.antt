@@ -17,7 +17,7 @@ use Rattle.desk.specs.declared.Answered.{Answered}
 use Rattle.rules.specs.Events.{decoded}
 use Rattle.rules.specs.Laid.{heldOk, heldStep, heldRun, heldAnswers}
 use Rattle.rules.proofs.Carried.{held-kept}
-use Rattle.bench.specs.Acts.{byRecord}
+use Rattle.acts.specs.Acts.{byRecord}
 use Rattle.bench.specs.Runs.{smaller, pieces}
 use Rattle.bench.proofs.ByRecord.{step-by-record}
 

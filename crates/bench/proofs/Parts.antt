@@ -31,10 +31,11 @@ use Rattle.rules.specs.Table.{tableOk}
 use Rattle.refusals.specs.Heads.{headOf}
 use Rattle.card.specs.declared.Turned.{Turned}
 use Rattle.card.specs.Act.{recordAfter}
-use Rattle.bench.specs.declared.Asked.{Asked}
-use Rattle.bench.specs.declared.Change.{Change}
-use Rattle.bench.specs.declared.Change.the-variants as change
-use Rattle.bench.specs.Acts.{placeOf, deliveredAt, asked, toldAt, changeOf, withEther, withArchive, carriedOut, settled, actOn, putBack, byRecord}
+use Rattle.acts.specs.declared.Asked.{Asked}
+use Rattle.acts.specs.declared.Change.{Change}
+use Rattle.acts.specs.declared.Change.the-variants as change
+use Rattle.acts.specs.Acts.{placeOf, deliveredAt, asked, toldAt, changeOf, withEther, withArchive, carriedOut, settled, actOn, putBack, byRecord}
+use Rattle.acts.proofs.Told.{acted}
 use Rattle.bench.proofs.ByRecord.{stays}
 
 -- what a bench holds, of its parts
@@ -57,11 +58,6 @@ long-parts h w =
       long isZeroPurse 32 (h .desk .purses) (h .table) (and-l ps ms both),
       long isZeroMessage 256 (h .desk .ether .count) (h .desk .ether .places) (and-r ps ms both),
     )
-
--- what is asked for, told and settled is the step of an event at its record
-pub acted : (p : Purse) (d : Desk) (v : Event) (i : ℕ) (m : Message) (a : Asked) (t : Turned) (c : Change) → i ≡ deliveredAt v → m ≡ getD (d .ether .places) i zeroMessage → a ≡ asked (record { purses = d .purses; messages = d .ether .count; entries = d .archive .count; message = m }) v → t ≡ toldAt (headOf p) a → c ≡ changeOf p a (t .message) → settled p d t c ≡ actOn p d v
-unfolding actOn
-acted p d v i m a t c place message ask told change = rw (change, told, ask, message, place)
 
 module _ (h : Held) (k : ℕ) (a : Asked) (t : Turned) where
   -- the record in place k

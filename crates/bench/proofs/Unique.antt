@@ -12,28 +12,16 @@ use Rattle.desk.specs.declared.Answered.{Answered}
 use Rattle.rules.specs.declared.Event.{Event}
 use Rattle.rules.specs.Events.{decoded}
 use Rattle.rules.specs.Laid.{heldStep, heldRun, heldAnswers, heldOpening}
-use Rattle.bench.specs.declared.Acted.{Acted}
+use Rattle.acts.specs.declared.Acted.{Acted}
 use Rattle.bench.specs.declared.Ran.{Ran}
-use Rattle.bench.specs.Acts.{placeOf, actOn, byRecord}
+use Rattle.acts.specs.Acts.{placeOf, actOn, byRecord}
 use Rattle.bench.specs.Runs.{pieces, taken}
-
-pub decode-one : (l : List ℕ) (r s : Event) → r ≡ decoded l → s ≡ decoded l → r ≡ s
-decode-one l r s e f = one e f
-
-pub place-of-one : (v : Event) (r s : ℕ) → r ≡ placeOf v → s ≡ placeOf v → r ≡ s
-place-of-one v r s e f = one e f
-
-pub act-one : (p : Purse) (d : Desk) (v : Event) (r s : Acted) → r ≡ actOn p d v → s ≡ actOn p d v → r ≡ s
-act-one p d v r s e f = one e f
 
 pub by-record-one : (h : Held) (l : List ℕ) (r s : Answered) → r ≡ byRecord h (decoded l) → s ≡ byRecord h (decoded l) → r ≡ s
 by-record-one h l r s e f = one e f
 
 pub event-one : (h : Held) (l : List ℕ) (r s : Answered) → r ≡ heldStep h l → s ≡ heldStep h l → r ≡ s
 event-one h l r s e f = one e f
-
-pub opening-one : (h : Held) (bs : List ℕ) (r s : Answered) → r ≡ heldOpening h bs → s ≡ heldOpening h bs → r ≡ s
-opening-one h bs r s e f = one e f
 
 -- what a run promises of its result and of the answers as it leaves them
 abbrev RunSays : Held → List ℕ → List ℕ → Ran → List ℕ → Type 0

@@ -1,13 +1,13 @@
 // Many events: the rules are tested once, since every step keeps them.
-use crate::Change;
 use crate::Ran;
-use crate::Seen;
-use crate::acts::change_of;
-use crate::acts::tell;
-use crate::asks::ask;
-use crate::asks::delivered_at;
-use crate::asks::place_of;
-use crate::events::decode;
+use acts::Change;
+use acts::Seen;
+use acts::ask;
+use acts::change_of;
+use acts::decode;
+use acts::delivered_at;
+use acts::place_of;
+use acts::tell;
 use desk::Desk;
 use desk::Held;
 use purse::Message;

@@ -1,13 +1,13 @@
 // An event at the whole bench: the rules first, then the one record that the event names.
-use crate::acts::act;
-use crate::asks::place_of;
-use crate::events::decode;
+use acts::act;
+use acts::place_of;
+use acts::decode;
 use desk::Answered;
 use desk::Held;
 ghost use mathlib.Core.Path.{_≡_};
 ghost use Rattle.rules.specs.Events.{decoded};
 ghost use Rattle.rules.specs.Laid.{heldStep};
-ghost use Rattle.bench.specs.Acts.{byRecord};
+ghost use Rattle.acts.specs.Acts.{byRecord};
 
 // One record is looked up, and put back; where the table is well formed that is the whole step.
 fn by_record(held: Held, event: &[u8]) -> Answered

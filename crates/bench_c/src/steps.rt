@@ -1,6 +1,6 @@
 // The bench's steps by value, as the entries call them: an event's bytes in place of the event, a table and a desk in place of what both make.
 use bench::Ran;
-use bench::opening;
+use opens::opening;
 use bench::run;
 use claims::claims;
 use desk::Answered;

@@ -21,12 +21,12 @@ use Rattle.desk.specs.declared.Entry.{Entry}
 use Rattle.desk.specs.declared.Desk.{Desk}
 use Rattle.desk.specs.Desk.{zeroEntry, added, takenOut, stored}
 use Rattle.rules.specs.declared.Event.{Event}
-use Rattle.bench.specs.declared.Seen.{Seen}
-use Rattle.bench.specs.declared.Change.{Change}
-use Rattle.bench.specs.declared.Change.the-variants.{Nothing, Send, Lose, Store}
-use Rattle.bench.specs.declared.Asked.{Asked}
-use Rattle.bench.specs.declared.Acted.{Acted}
-use Rattle.bench.specs.Acts.{deliveredAt, seenAt, asked, toldAt, changeOf, carriedOut, settled, actOn}
+use Rattle.acts.specs.declared.Seen.{Seen}
+use Rattle.acts.specs.declared.Change.{Change}
+use Rattle.acts.specs.declared.Change.the-variants.{Nothing, Send, Lose, Store}
+use Rattle.acts.specs.declared.Asked.{Asked}
+use Rattle.acts.specs.declared.Acted.{Acted}
+use Rattle.acts.specs.Acts.{deliveredAt, seenAt, asked, toldAt, changeOf, carriedOut, settled, actOn}
 use Rattle.deeds.specs.declared.Deed.{Deed}
 use Rattle.deeds.specs.Deeds.{within, seenWith, deskStays, doing, deedOf, deedBy, deedAt, deskAfter}
 

@@ -16,11 +16,11 @@ use Rattle.desk.specs.declared.Entry.{Entry}
 use Rattle.desk.specs.declared.Desk.{Desk}
 use Rattle.desk.specs.Desk.{places, zeroEntry, takenOut}
 use Rattle.rules.specs.declared.Event.{Event}
-use Rattle.bench.specs.declared.Seen.{Seen}
-use Rattle.bench.specs.declared.Asked.{Asked}
-use Rattle.bench.specs.declared.Change.{Change}
-use Rattle.bench.specs.declared.Change.the-variants.{Nothing, Send, Lose, Store}
-use Rattle.bench.specs.Acts.{deliveredAt, asked, toldAt, changeOf, withEther}
+use Rattle.acts.specs.declared.Seen.{Seen}
+use Rattle.acts.specs.declared.Asked.{Asked}
+use Rattle.acts.specs.declared.Change.{Change}
+use Rattle.acts.specs.declared.Change.the-variants.{Nothing, Send, Lose, Store}
+use Rattle.acts.specs.Acts.{deliveredAt, asked, toldAt, changeOf, withEther}
 use Rattle.deeds.specs.declared.Deed.{Deed}
 
 -- the place n, or the last place where n is past all

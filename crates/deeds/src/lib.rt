@@ -1,14 +1,14 @@
 // What an event writes in a lent table and desk, place by place, so that nothing else is moved: worked out by value from the record that it
 // names and the few places that it reads.
-use bench::Asked;
-use bench::Change;
-use bench::Seen;
-use bench::ask;
-use bench::change_of;
-use bench::decode;
-use bench::delivered_at;
-use bench::place_of;
-use bench::tell;
+use acts::Asked;
+use acts::Change;
+use acts::Seen;
+use acts::ask;
+use acts::change_of;
+use acts::decode;
+use acts::delivered_at;
+use acts::place_of;
+use acts::tell;
 use card::Turned;
 use card::record;
 use desk::Entry;
@@ -20,7 +20,7 @@ use rules::Event;
 ghost use mathlib.Core.Path.{_≡_};
 ghost use Rattle.rules.specs.Events.{decoded};
 ghost use Rattle.desk.specs.Desk.{takenOut};
-ghost use Rattle.bench.specs.Acts.{placeOf, deliveredAt};
+ghost use Rattle.acts.specs.Acts.{placeOf, deliveredAt};
 ghost use Rattle.deeds.specs.Deeds.{within, seenWith, deskStays, doing, deedOf, deedBy};
 
 // What an event writes: the answer, its record's next state, what then stands behind the messages and behind the entries with their

@@ -97,7 +97,7 @@ fn opening(held: Held, bytes: &mut [u8]) -> bool {
         return false;
     }
     let all = balances(bytes, n);
-    let a = bench::opening(held, &all[..n]);
+    let a = opens::opening(held, &all[..n]);
     let after = a.held;
     reply(a.answer, after)
 }

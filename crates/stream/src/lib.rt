@@ -159,7 +159,7 @@ fn read_opening(from: i32, bytes: &mut [u8]) -> Filled
 fn open(balances: [u32; 32], count: usize) -> Answered
     requires { ⌜ count ≤ 32 ⌝ }
 {
-    bench::opening(nothing(), &balances[..count])
+    opens::opening(nothing(), &balances[..count])
 }
 
 // A piece of whole events, the last piece of the input with an event cut short at its end. Where a read fails no event is cut short by the

@@ -49,7 +49,7 @@ use Rattle.desk.specs.declared.Desk.{Desk}
 use Rattle.desk.specs.Desk.{zeroEntry, takenOut}
 use Rattle.rules.specs.declared.Event.{Event}
 use Rattle.rules.specs.Events.{decoded}
-use Rattle.bench.specs.Acts.{deliveredAt, withEther}
+use Rattle.acts.specs.Acts.{deliveredAt, withEther}
 use Rattle.deeds.specs.declared.Deed.{Deed}
 use Rattle.deeds.specs.Deeds.{within, seenWith, deedBy, deedAt, writtenOn, deskAfter}
 use Rattle.deeds.proofs.Acts.{within-less}

@@ -6,8 +6,8 @@ use Rattle.bench.proofs.ByRecord.{place-below}
 use Rattle.bench.proofs.Parts.{bench, long-parts, settledAt, by-asked, when-refused, when-nothing, when-sent, when-lost, when-stored}
 use Rattle.refusals.specs.declared.Head.{Head}
 use Rattle.card.specs.declared.Turned.{Turned}
-use Rattle.bench.specs.declared.Asked.{Asked}
-use Rattle.bench.specs.Acts.{deliveredAt, toldAt, byRecord}
+use Rattle.acts.specs.declared.Asked.{Asked}
+use Rattle.acts.specs.Acts.{deliveredAt, toldAt, byRecord}
 use Rattle.purse.proofs.Lists.{at-any}
 use Rattle.purse.specs.Details.{zeroMessage}
 use Rattle.purse.specs.Purse.{zeroPurse}

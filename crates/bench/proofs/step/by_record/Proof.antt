@@ -2,7 +2,7 @@
 -- Assumes nothing.
 use Rattle.purse.specs.declared.Purse.{Purse}
 use Rattle.bench.proofs.ByRecord.{place-below}
-use Rattle.bench.specs.Acts.{actOn, putBack, byRecord}
+use Rattle.acts.specs.Acts.{actOn, putBack, byRecord}
 use Rattle.purse.proofs.Lists.{at-any}
 use Rattle.purse.specs.Purse.{zeroPurse}
 use lib.ListN.{length, length-map, getD}

@@ -1,0 +1,17 @@
+-- `acts::asks::telling` meets its contract: the number decides.
+-- Assumes nothing.
+use Rattle.acts.specs.Acts.{toTell}
+use borrow.Author.Tests.{ne-eqb, eq-eqb}
+use Rattle.acts.proofs.asks.telling.Statement.{statement}
+use Rattle.acts.proofs.asks.telling.Tie as tie
+
+returns : tie.Need-returns
+unfolding toTell
+returns c = simp (eq-eqb _ 0 (c .if1 .taken))
+
+returns-2 : tie.Need-returns-2
+unfolding toTell
+returns-2 c = simp (ne-eqb _ 0 (c .if1 .left))
+
+pub telling-spec : {M : Type 1} → statement M
+telling-spec = tie.close (tie.spec returns returns-2)

@@ -1,0 +1,2 @@
+mod OpenedTable
+pub mod Unique
