@@ -9,7 +9,7 @@ use Rattle.purse.specs.declared.Details.{Details}
 use Rattle.purse.specs.declared.Purse.{Purse}
 use Rattle.purse.specs.Details.{zeroDetails, sameDetails}
 use Rattle.purse.specs.Purse.{boundsOk, idleOk, busyOk}
-use Rattle.refusals.specs.declared.form.Head.{Head}
+use Rattle.refusals.specs.declared.Head.{Head}
 
 -- "unused places all zero"
 abbrev pub unused : Details → Bool

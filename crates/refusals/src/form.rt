@@ -1,5 +1,6 @@
 // The test of the rules about one purse alone, and of the payment details that it holds. It is cut into the head by value and one place of the
 // log by value: a record handed whole into a loop is taken apart field by field on every turn.
+use crate::Head;
 use purse::Amount;
 use purse::Details;
 use purse::Name;
@@ -12,16 +13,6 @@ ghost use Rattle.purse.specs.Lists.{all};
 ghost use Rattle.purse.specs.Details.{sameDetails, legal, named, asPayer, asPayee, entryOk, absent};
 ghost use Rattle.purse.specs.Purse.{ceiling, logPlaces, idleOk, busyOk, logOk, wellFormed};
 ghost use Rattle.refusals.specs.Form.{headed, logging, unused, headOk};
-
-// The head of a record: a purse without its log, and `most`, the ceiling of its balance.
-pub struct Head {
-    pub balance: Amount,
-    pub next: Seq,
-    pub details: Details,
-    pub status: u8,
-    pub logged: u8,
-    pub most: u32,
-}
 
 // An amount from 1 to the ceiling.
 pub fn is_legal(a: Amount) -> bool
@@ -176,17 +167,9 @@ fn is_log_ok(log: [Details; 8], logged: u8, running: Details, next: Seq, own: Na
 pub fn well_formed(p: Purse, own: Name) -> bool
     ensures { λ r. ⌜ r ≡ wellFormed own p ⌝ }
 {
-    let balance = p.balance;
     let next = p.next;
     let running = p.details;
-    let h = Head {
-        balance: balance,
-        next: next,
-        details: running,
-        status: p.status,
-        logged: p.logged,
-        most: p.ceiling(),
-    };
+    let h = Head::of(p);
     let head = is_head_ok(h, own);
     if p.logged == 0 {
         let log = p.log;

@@ -1,17 +1,18 @@
 -- `refusals::form::well_formed` meets its contract: the head, then the log, by what their tests promise (`Parts`). Assumes nothing.
-use mathlib.Core.Path.{_≡_, _∙_, sym}
+use mathlib.Core.Path.{_≡_, _∙_, sym, ap}
 use lib.ListN.{length}
 use native.Mathlib.Omega.{arith}
 use Rattle.purse.specs.Purse.{idleOk, busyOk, placeOk, logOk}
 use Rattle.purse.proofs.Lists.{unmapped}
-use Rattle.refusals.specs.Form.{headOk}
+use Rattle.refusals.specs.declared.Head.{Head}
+use Rattle.refusals.specs.Form.{headed, headOk}
 use Rattle.refusals.proofs.Parts.{log-empty, whole}
 use borrow.Author.Needs.{needs}
 use Rattle.refusals.proofs.form.well_formed.Statement.{statement}
 use Rattle.refusals.proofs.form.well_formed.Tie as tie
 
-ceiling-requires : tie.Need-ceiling-requires
-ceiling-requires c κs = search needs
+of-requires : tie.Need-of-requires
+of-requires c κs = search needs
 
 is-head-ok-requires : tie.Need-is-head-ok-requires
 is-head-ok-requires c κs = search needs
@@ -29,21 +30,21 @@ long start = search (needs, unmapped)
 returns : tie.Need-returns
 unfolding headOk idleOk busyOk
 returns c =
-    let start = c .before .before .before .before .before .before .before .before .before in
-    whole (start .args .own) (start .args .p) (c .before .before .before .before .is-head-ok .ensures)
+    let start = c .before .before .before .before .before .before .before .before in
+    whole (start .args .own) (start .args .p) (c .before .before .before .before .is-head-ok .ensures ∙ ap (λ (h : Head). headOk (start .args .own) (headed h)) (c .before .before .before .before .before .of .ensures))
     (c .is-log-unused .ensures ∙ sym (log-empty (start .args .own) (start .args .p) (long start) (omega arith)))
 
 returns-2 : tie.Need-returns-2
 unfolding headOk idleOk busyOk logOk placeOk
 returns-2 c =
-    let start = c .before .before .before .before .before .before .before .before .before in
-    whole (start .args .own) (start .args .p) (c .before .before .before .before .is-head-ok .ensures) (c .is-log-ok .ensures)
+    let start = c .before .before .before .before .before .before .before .before in
+    whole (start .args .own) (start .args .p) (c .before .before .before .before .is-head-ok .ensures ∙ ap (λ (h : Head). headOk (start .args .own) (headed h)) (c .before .before .before .before .before .of .ensures)) (c .is-log-ok .ensures)
 
 pub well-formed-spec : {M : Type 1} → statement M
 well-formed-spec =
     tie.close
     (tie.spec
-    ceiling-requires
+    of-requires
     is-head-ok-requires
     is-log-unused-requires
     is-log-ok-requires
