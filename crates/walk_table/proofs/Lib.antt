@@ -2,3 +2,4 @@ pub mod Structs
 mod Calls
 pub mod Slices
 pub mod Whole
+pub mod Unique

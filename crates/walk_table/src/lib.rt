@@ -1,4 +1,4 @@
-// The records of a lent table, all of them: tested, copied out to be worked on by value, and replaced. "The bench owns a table of 32 purse records,
+// The records of a lent table, all of them: tested, copied out to be worked on by value, and stored. "The bench owns a table of 32 purse records,
 // lent to each call."
 use desk::Answered;
 use desk::Desk;
