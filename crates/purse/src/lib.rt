@@ -99,16 +99,19 @@ impl Details {
         }
     }
 
-    // Whether two details agree in every field. The payer's number is asked first, alone: it tells most payments apart.
+    // Whether two details agree in every field. The payer's number is asked first, then the payee's, each alone: they tell most payments
+    // apart.
     pub fn same(self, other: Details) -> bool
         ensures { λ r. ⌜ r ≡ sameDetails self other ⌝ }
     {
         if self.payerseq.0 == other.payerseq.0 {
-            (self.payer.0 == other.payer.0)
-                & (self.payerseq.0 == other.payerseq.0)
-                & (self.payee.0 == other.payee.0)
-                & (self.payeeseq.0 == other.payeeseq.0)
-                & (self.amount.0 == other.amount.0)
+            if self.payeeseq.0 == other.payeeseq.0 {
+                (self.payer.0 == other.payer.0)
+                    & (self.payee.0 == other.payee.0)
+                    & (self.amount.0 == other.amount.0)
+            } else {
+                false
+            }
         } else {
             false
         }
