@@ -10,15 +10,11 @@ use native.Mathlib.Omega.{arith}
 use mathlib.Core.List.{List, [], _∷_, _++_}
 use lib.ListN.{length, take, drop, getD, length-append}
 use lib.Seq.{getD-take, getD-drop, take-take, take-append-seam, drop-append-seam, drop-drop, drop-cons, take-add}
-use Rattle.bigendian.specs.Bytes.{byte, byteAt, big, numberAt, room, Below, All, flat, many}
+use Rattle.bigendian.specs.Bytes.{byte, byteAt, big, numberAt, Bytes, room, Below, All, flat, many}
 
 -- n bytes of a list from a place on
 unfoldable pub seg : List ℕ → ℕ → ℕ → List ℕ
 seg l at n = take n (drop at l)
-
--- every element is a byte
-abbrev pub Bytes : List ℕ → Type 0
-Bytes l = (i : ℕ) → getD l i 0 < 256
 
 -- the bytes xs stand in l at i
 pub record At (l : List ℕ) (i : ℕ) (xs : List ℕ) : Type 0 where

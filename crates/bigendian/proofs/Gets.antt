@@ -1,14 +1,15 @@
 -- A loop that reads values of one width and lays them in places from 0 on: one law over the element, its decoder and its width.
 -- Assumes nothing.
 use mathlib.Core.Path.{_≡_, sym, ap, _∙_}
-use Prim.Native.Nat.{ℕ, zero, suc, _+_, _*_, _-_, _<_}
+use Prim.Native.Nat.{ℕ, zero, suc, _+_, _*_, _-_, _≤_, _<_}
 use native.Mathlib.Nat.{add-zero, mul-zero, mul-suc}
 use native.Mathlib.Numerals.{add-one}
 use native.Mathlib.Omega.{arith}
 use mathlib.Core.List.{List, [], _∷_, _++_, append-assoc, append-nil}
-use lib.ListN.{set, replicate}
+use lib.ListN.{length, set, replicate}
+use borrow.Author.Tests.{le-leb, lt-leb}
 use lib.Seq.{set-at}
-use Rattle.bigendian.specs.Bytes.{many}
+use Rattle.bigendian.specs.Bytes.{many, placesIn}
 use Rattle.bigendian.proofs.Coded.{length-many}
 
 -- where a loop stands that reads values from the place at on into k places, z at each unused one: i of them are read, the places are xs,
@@ -55,3 +56,17 @@ module _ {A : Type 0} (g : List ℕ → ℕ → A) (w : ℕ) where
     filled-full e p =
         let none : k - k ≡ 0 = omega arith in
         filled-all k e p ∙ rw none (append-nil (many g w k l at))
+
+-- so many values in their places, or none
+module _ {A : Type 0} (g : List ℕ → ℕ → A) (w k : ℕ) (z : A) (n : ℕ) (l : List ℕ) (at : ℕ) where
+  pub places-there : n ≤ k → w * n ≤ length l - at → placesIn g w k z n l at ≡ many g w n l at ++ replicate (k - n) z
+  unfolding placesIn
+  places-there h room = rw (le-leb n k h, le-leb (w * n) (length l - at) room)
+
+  pub places-above : k < n → placesIn g w k z n l at ≡ replicate k z
+  unfolding placesIn
+  places-above h = rw (lt-leb n k h)
+
+  pub places-missing : n ≤ k → length l - at < w * n → placesIn g w k z n l at ≡ replicate k z
+  unfolding placesIn
+  places-missing h room = rw (le-leb n k h, lt-leb (w * n) (length l - at) room)

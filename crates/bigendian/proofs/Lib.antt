@@ -2,3 +2,4 @@ pub mod Coded
 pub mod Numbers
 pub mod Puts
 pub mod Gets
+pub mod Unique

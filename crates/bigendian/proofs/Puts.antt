@@ -2,14 +2,15 @@
 -- A run of stores after another is one run of both; so is each turn of the loop.
 -- Assumes nothing.
 use mathlib.Core.Path.{_≡_, refl, sym, ap, _∙_}
-use Prim.Native.Nat.{ℕ, suc, _+_, _*_, _≤_, _<_}
+use Prim.Native.Nat.{ℕ, suc, _+_, _*_, _-_, _≤_, _<_}
 use native.Mathlib.Nat.{add-zero, mul-zero, mul-suc}
 use native.Mathlib.Numerals.{add-one}
 use native.Mathlib.Omega.{arith}
 use mathlib.Core.List.{List, [], _∷_, _++_, append-assoc, append-nil}
 use lib.ListN.{length, take, drop, getD, set, length-append}
 use lib.Seq.{sets, length-sets, sets-eq, take-suc}
-use Rattle.bigendian.specs.Bytes.{put, flat}
+use borrow.Author.Tests.{le-leb, lt-leb}
+use Rattle.bigendian.specs.Bytes.{put, putIn, flat, putFirst}
 
 sets-append : (l : List ℕ) (i : ℕ) (vs ws : List ℕ) → sets (sets l i vs) (i + length vs) ws ≡ sets l i (vs ++ ws)
 sets-append l i [] ws = rw add-zero
@@ -32,6 +33,23 @@ put-eq l i vs h = sets-eq vs l i h
 pub then-put : (l : List ℕ) (i : ℕ) (vs ws : List ℕ) {l₁ l₂ : List ℕ} {j : ℕ} → l₁ ≡ put l i vs → j ≡ i + length vs → l₂ ≡ put l₁ j ws → l₂ ≡ put l i (vs ++ ws)
 unfolding put
 then-put l i vs ws {l₁} {l₂} {j} p q r = r ∙ rw (p, q) (sets-append l i vs ws)
+
+-- bytes put where there is room for them, and where there is not
+module _ (w : ℕ) (l : List ℕ) (i : ℕ) (vs : List ℕ) where
+  pub put-there : i + w ≤ length l → putIn w l i vs ≡ put l i vs
+  unfolding putIn
+  put-there h = rw (le-leb (i + w) (length l) h)
+
+  pub put-nowhere : length l < i + w → putIn w l i vs ≡ l
+  unfolding putIn
+  put-nowhere h = rw (lt-leb (i + w) (length l) h)
+
+-- a run of bytes after another, where there is room for both
+pub then-there : (l : List ℕ) (i : ℕ) (vs ws : List ℕ) (w : ℕ) {l₁ l₂ : List ℕ} {j : ℕ} → l₁ ≡ put l i vs → j ≡ i + length vs → l₂ ≡ putIn w l₁ j ws
+    → j + w ≤ length l → l₂ ≡ put l i (vs ++ ws)
+then-there l i vs ws w {l₁} {l₂} {j} p q r h =
+    let long : length l₁ ≡ length l = ap length p ∙ length-put l i vs in
+    then-put l i vs ws p q (r ∙ put-there w l₁ j ws (omega arith))
 
 module _ {A : Type 0} (f : A → List ℕ) where
   flat-append : (xs ys : List A) → flat f (xs ++ ys) ≡ flat f xs ++ flat f ys
@@ -83,3 +101,17 @@ module _ {A : Type 0} (f : A → List ℕ) (w : ℕ) (l : List ℕ) (at : ℕ) (
   pub wrote-all : (n : ℕ) {out : List ℕ} {i to : ℕ} → i ≡ n → Wrote f w l at xs out i to
       → (to ≡ at + w * n) × (out ≡ put l at (flat f (take n xs))) × (length (flat f (take n xs)) ≡ w * n)
   wrote-all n e p = rw (← e) (p .next, p .wrote, p .wide)
+
+-- the first of so many places put, or nothing
+module _ {A : Type 0} (f : A → List ℕ) (w k : ℕ) (xs : List A) (n : ℕ) (l : List ℕ) (at : ℕ) where
+  pub first-put : n ≤ k → w * n ≤ length l - at → putFirst f w k xs n l at ≡ put l at (flat f (take n xs))
+  unfolding putFirst
+  first-put h room = rw (le-leb n k h, le-leb (w * n) (length l - at) room)
+
+  pub first-above : k < n → putFirst f w k xs n l at ≡ l
+  unfolding putFirst
+  first-above h = rw (lt-leb n k h)
+
+  pub first-nowhere : n ≤ k → length l - at < w * n → putFirst f w k xs n l at ≡ l
+  unfolding putFirst
+  first-nowhere h room = rw (le-leb n k h, lt-leb (w * n) (length l - at) room)

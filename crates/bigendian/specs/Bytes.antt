@@ -1,15 +1,19 @@
 -- Bytes: a number written with its highest byte first and read back, over the width; a list's elements one after the other; a buffer with
 -- other bytes from a place on.
-use Prim.Native.Nat.{ℕ, zero, suc, _+_, _*_, _/_, _%_, _<_}
-use mathlib.Core.Bool.{cond}
+use Prim.Native.Nat.{ℕ, zero, suc, _+_, _*_, _-_, _/_, _%_, _<_}
+use mathlib.Core.Bool.{cond, _&&_}
 use mathlib.Core.List.{List, [], _∷_, _++_}
-use lib.ListN.{length, getD}
+use lib.ListN.{length, take, getD, replicate}
 use lib.Dec.{leb}
 use lib.Seq.{sets}
 
 -- a buffer with the bytes vs from place i on
 unfoldable pub put : List ℕ → ℕ → List ℕ → List ℕ
 put l i vs = sets l i vs
+
+-- the same where there is room for w bytes from i on; as it was where there is not
+unfoldable pub putIn : ℕ → List ℕ → ℕ → List ℕ → List ℕ
+putIn w l i vs = cond (leb (i + w) (length l)) (put l i vs) l
 
 -- one byte
 abbrev pub byte : ℕ → List ℕ
@@ -32,6 +36,14 @@ numberAt (suc w) l at = numberAt w l at * 256 + getD l (at + w) 0
 -- the number that four bytes at a place spell; 0 where they are not all there
 unfoldable pub numberIn : List ℕ → ℕ → ℕ
 numberIn l at = cond (leb (at + 4) (length l)) (numberAt 4 l at) 0
+
+-- what w bytes at a place give; z where they are not all there
+unfoldable pub readIn : {A : Type 0} → (List ℕ → ℕ → A) → ℕ → A → List ℕ → ℕ → A
+readIn g w z l at = cond (leb (at + w) (length l)) (g l at) z
+
+-- every element is a byte
+abbrev pub Bytes : List ℕ → Type 0
+Bytes l = (i : ℕ) → getD l i 0 < 256
 
 -- how many numbers w bytes can spell
 abbrev pub room : ℕ → ℕ
@@ -56,3 +68,11 @@ flat f (x ∷ xs) = f x ++ flat f xs
 unfoldable pub many : {A : Type 0} → (List ℕ → ℕ → A) → ℕ → ℕ → List ℕ → ℕ → List A
 many g w zero l at = []
 many g w (suc n) l at = g l at ∷ many g w n l (at + w)
+
+-- a buffer with the bytes of the first n of k places, each w bytes long, from a place on; as it was where n is above k or they have no room
+unfoldable pub putFirst : {A : Type 0} → (A → List ℕ) → ℕ → ℕ → List A → ℕ → List ℕ → ℕ → List ℕ
+putFirst f w k xs n l at = cond (leb n k && leb (w * n) (length l - at)) (put l at (flat f (take n xs))) l
+
+-- n values read one after the other into k places, z behind them; z alone where n is above k or they are not all there
+unfoldable pub placesIn : {A : Type 0} → (List ℕ → ℕ → A) → ℕ → ℕ → A → ℕ → List ℕ → ℕ → List A
+placesIn g w k z n l at = cond (leb n k && leb (w * n) (length l - at)) (many g w n l at ++ replicate (k - n) z) (replicate k z)

@@ -1,6 +1,6 @@
 -- What a well-formed bench's image is: as long as its counts say, and at most 12,042 bytes.
 -- Assumes nothing.
-use Prim.Native.Nat.{ℕ, suc, _≤_, _<_}
+use Prim.Native.Nat.{ℕ, suc, _*_, _≤_, _<_}
 use mathlib.Core.Path.{_≡_, ap, _∙_}
 use mathlib.Core.Bool.{true, _&&_}
 use mathlib.Core.List.{List, [], _∷_, _++_}
@@ -12,8 +12,10 @@ use Rattle.purse.proofs.Log.{log-long}
 use Rattle.purse.proofs.Rules.{wf-log}
 use Rattle.desk.specs.declared.Held.{Held}
 use Rattle.bigendian.specs.Bytes.{All, flat}
+use Rattle.bigendian.proofs.Coded.{any-all, many-coded}
+use Rattle.layout.specs.Widths.{purseWidth, messageWidth}
 use Rattle.layout.specs.Records.{purseBytes, messageBytes, entryBytes}
-use Rattle.layout.proofs.Records.{EightPlaces}
+use Rattle.layout.proofs.Records.{EightPlaces, purse-coded, message-coded}
 use Rattle.rules.specs.Bench.{Bench, called, purseAt}
 use Rattle.rules.specs.Table.{tableOk}
 use Rattle.rules.specs.Laid.{seen, placesOk, isZeroPurse, isZeroMessage, isZeroEntry, heldOk}
@@ -80,6 +82,18 @@ module _ (h : Held) (w : heldOk h ≡ true) where
         purses = omega (arith, purses-count, small .purses);
         messages = omega (arith, messages-count, small .messages);
         entries = omega (arith, entries-count, small .archive);
+      }
+
+  -- how long the bytes of each list are
+  pub record Lists : Type 0 where
+    pub purses : length (flat purseBytes (seen h .purses)) ≡ purseWidth * (h .desk .purses)
+    pub messages : length (flat messageBytes (seen h .messages)) ≡ messageWidth * (h .desk .ether .count)
+
+  pub lists-length : Lists
+  lists-length =
+      record {
+        purses = many-coded purse-coded (h .desk .purses) .wide (seen h .purses) (purses-count, small .logs);
+        messages = many-coded message-coded (h .desk .ether .count) .wide (seen h .messages) (messages-count, any-all (seen h .messages));
       }
 
   -- "The largest image is 12,042 bytes"

@@ -13,7 +13,7 @@ use Rattle.purse.specs.Tests.{_⇒_, first}
 use Rattle.purse.proofs.Bools.{which}
 use Rattle.purse.proofs.Tests.{passed}
 use Rattle.desk.specs.declared.Held.{Held}
-use Rattle.bigendian.proofs.Coded.{Bytes}
+use Rattle.bigendian.specs.Bytes.{Bytes}
 use Rattle.rules.specs.Laid.{laid, seen, heldOk}
 use Rattle.rules.proofs.Places.{laid-seen, seen-laid}
 use Rattle.layout.specs.Head.{headTests}

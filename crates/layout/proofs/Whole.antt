@@ -15,9 +15,9 @@ use Rattle.desk.specs.declared.Ether.{Ether}
 use Rattle.desk.specs.declared.Archive.{Archive}
 use Rattle.desk.specs.declared.Held.{Held}
 use Rattle.desk.specs.Desk.{zeroEntry}
-use Rattle.bigendian.specs.Bytes.{byte, byteAt, big, numberAt, Below, All, flat, many}
+use Rattle.bigendian.specs.Bytes.{byte, byteAt, big, numberAt, Bytes, Below, All, flat, many}
 use Rattle.layout.specs.Records.{purseBytes, purseAt, messageBytes, messageAt, entryBytes, entryAt}
-use Rattle.bigendian.proofs.Coded.{Coded, Any, Bytes, seg, any-all, byte-coded, number-coded, pair-coded, held-coded, many-coded, length-many}
+use Rattle.bigendian.proofs.Coded.{Coded, Any, seg, any-all, byte-coded, number-coded, pair-coded, held-coded, many-coded, length-many}
 use Rattle.layout.proofs.Records.{EightPlaces, purse-coded, message-coded, entry-coded}
 use Rattle.rules.specs.Bench.{Bench}
 use Rattle.layout.specs.Widths.{headWidth, purseWidth, messageWidth, entryWidth}

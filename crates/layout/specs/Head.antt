@@ -6,7 +6,7 @@ use lib.ListN.{length}
 use lib.Dec.{ltb, leb, eqb}
 use Rattle.purse.specs.Tests.{Test, _⇒_}
 use Rattle.bigendian.specs.Bytes.{byte, byteAt, big, numberAt}
-use Rattle.layout.specs.Widths.{headWidth, purseWidth, messageWidth, entryWidth}
+use Rattle.layout.specs.Widths.{versionPlace, pursesPlace, messagesPlace, entriesPlace, headWidth, purseWidth, messageWidth, entryWidth}
 
 -- "version 00 01"
 abbrev pub version : ℕ
@@ -21,16 +21,16 @@ abbrev pub marked : List ℕ → Bool
 marked l = eqb (byteAt l 0) 0x50 && eqb (byteAt l 1) 0x52 && eqb (byteAt l 2) 0x53
 
 abbrev pub versionIn : List ℕ → ℕ
-versionIn l = numberAt 2 l 3
+versionIn l = numberAt 2 l versionPlace
 
 abbrev pub pursesIn : List ℕ → ℕ
-pursesIn l = byteAt l 5
+pursesIn l = byteAt l pursesPlace
 
 abbrev pub messagesIn : List ℕ → ℕ
-messagesIn l = numberAt 2 l 6
+messagesIn l = numberAt 2 l messagesPlace
 
 abbrev pub entriesIn : List ℕ → ℕ
-entriesIn l = numberAt 2 l 8
+entriesIn l = numberAt 2 l entriesPlace
 
 -- where the messages begin, behind so many purses; and the archive entries, behind so many messages
 abbrev pub messagesFrom : ℕ → ℕ

@@ -7,7 +7,7 @@ use Rattle.purse.specs.declared.Message.{Message}
 use Rattle.purse.specs.declared.Purse.{Purse}
 use Rattle.desk.specs.declared.Entry.{Entry}
 use Rattle.bigendian.specs.Bytes.{byte, byteAt, big, numberAt, flat, many}
-use Rattle.layout.specs.Widths.{detailsWidth}
+use Rattle.layout.specs.Widths.{byteWidth, detailsWidth, payerseqPlace, payeePlace, payeeseqPlace, amountPlace, nextPlace, statusPlace, loggedPlace, detailsPlace, logPlace}
 
 -- "Details: payer 1, its number 4, payee 1, its number 4, amount 4"
 unfoldable pub detailsBytes : Details → List ℕ
@@ -18,10 +18,10 @@ unfoldable pub detailsAt : List ℕ → ℕ → Details
 detailsAt l at =
     record {
       payer = record { 0 = byteAt l at };
-      payerseq = record { 0 = numberAt 4 l (at + 1) };
-      payee = record { 0 = byteAt l (at + 5) };
-      payeeseq = record { 0 = numberAt 4 l (at + 6) };
-      amount = record { 0 = numberAt 4 l (at + 10) };
+      payerseq = record { 0 = numberAt 4 l (at + payerseqPlace) };
+      payee = record { 0 = byteAt l (at + payeePlace) };
+      payeeseq = record { 0 = numberAt 4 l (at + payeeseqPlace) };
+      amount = record { 0 = numberAt 4 l (at + amountPlace) };
     }
 
 -- "eight log places of 14"
@@ -41,11 +41,11 @@ unfoldable pub purseAt : List ℕ → ℕ → Purse
 purseAt l at =
     record {
       balance = record { 0 = numberAt 4 l at };
-      next = record { 0 = numberAt 4 l (at + 4) };
-      status = byteAt l (at + 8);
-      details = detailsAt l (at + 10);
-      log = logAt l (at + 24);
-      logged = byteAt l (at + 9);
+      next = record { 0 = numberAt 4 l (at + nextPlace) };
+      status = byteAt l (at + statusPlace);
+      details = detailsAt l (at + detailsPlace);
+      log = logAt l (at + logPlace);
+      logged = byteAt l (at + loggedPlace);
     }
 
 -- "15 bytes a message: kind (1 request, 2 value, 3 acknowledge), details"
@@ -53,11 +53,11 @@ unfoldable pub messageBytes : Message → List ℕ
 messageBytes m = byte (m .kind) ++ detailsBytes (m .details)
 
 unfoldable pub messageAt : List ℕ → ℕ → Message
-messageAt l at = record { kind = byteAt l at; details = detailsAt l (at + 1) }
+messageAt l at = record { kind = byteAt l at; details = detailsAt l (at + byteWidth) }
 
 -- "15 bytes an archive entry: logging purse, details"
 unfoldable pub entryBytes : Entry → List ℕ
 entryBytes e = byte (e .by .0) ++ detailsBytes (e .details)
 
 unfoldable pub entryAt : List ℕ → ℕ → Entry
-entryAt l at = record { by = record { 0 = byteAt l at }; details = detailsAt l (at + 1) }
+entryAt l at = record { by = record { 0 = byteAt l at }; details = detailsAt l (at + byteWidth) }

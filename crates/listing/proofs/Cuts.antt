@@ -14,8 +14,8 @@ use Rattle.desk.specs.declared.Answered.{Answered}
 use Rattle.rules.specs.Laid.{heldStep, heldRun, heldAnswers}
 use Rattle.bench.specs.Runs.{pieces, taken}
 use Rattle.listing.specs.Piece.{eventsIn, pieceFits, pieceLines, pieceOf, pieceBuffer}
-use Rattle.listing.specs.Text.{Filled}
-use Rattle.listing.specs.Listing.{eventLines, linesFit}
+use Rattle.lines.specs.Text.{Filled}
+use Rattle.lines.specs.Listing.{eventLines, linesFit}
 use Rattle.listing.specs.declared.Listed.{Listed}
 
 -- places for the answers of all whole events

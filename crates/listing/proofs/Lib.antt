@@ -1,5 +1,3 @@
-pub mod Puts
-pub mod Digits
 pub mod Opened
 pub mod Cuts
 pub mod Whole

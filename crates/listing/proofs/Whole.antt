@@ -18,11 +18,11 @@ use Rattle.desk.specs.declared.Held.{Held}
 use Rattle.rules.specs.Laid.{heldRun, heldAnswers}
 use Rattle.bench.specs.Runs.{pieces}
 use Rattle.bigendian.specs.Bytes.{numberAt, many}
-use Rattle.listing.specs.Listing.{eventLine}
+use Rattle.lines.specs.Listing.{eventLine}
 use Rattle.listing.specs.Opening.{balanceBytes, balancesAt, wholeOpening, balancesIn}
 use Rattle.listing.specs.Piece.{eventsIn, pieceLines}
 use Rattle.listing.specs.Whole.{openingBytes, openedBy, eventBytes, listingOf, whole, linesOf, heldAfter, joined, inPieces}
-use Rattle.listing.proofs.Puts.{numbered-append}
+use Rattle.lines.proofs.Puts.{numbered-append}
 use Rattle.listing.proofs.Cuts.{run-on, answers-on, length-answers, all-whole, last-cut}
 
 none : (xs : List ℕ) → length xs ≡ 0 → xs ≡ []

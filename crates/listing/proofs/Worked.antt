@@ -15,8 +15,8 @@ use Rattle.rules.specs.Steps.{acting, step}
 use Rattle.rules.specs.Run.{openingNumber}
 use Rattle.rules.specs.Paid.{claims}
 use Rattle.rules.specs.Laid.{isZeroPurse, isZeroMessage, isZeroEntry, heldOk, heldStep, heldOpening, heldClaims}
-use Rattle.listing.specs.Text.{digits, numbered}
-use Rattle.listing.specs.Listing.{openingLine, eventLine, purseLine, lastLine, footWith, footOf}
+use Rattle.lines.specs.Text.{digits, numbered}
+use Rattle.lines.specs.Listing.{openingLine, eventLine, purseLine, lastLine, footWith, footOf}
 use Rattle.listing.specs.Opening.{wholeOpening, balancesIn}
 use Rattle.listing.specs.Piece.{eventsIn, pieceLines}
 use Rattle.listing.specs.Whole.{listingOf}

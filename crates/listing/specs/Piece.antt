@@ -9,7 +9,7 @@ use Rattle.rules.specs.Laid.{heldRun, heldAnswers}
 use Rattle.bench.specs.Runs.{pieces}
 use Rattle.bigendian.specs.Bytes.{put}
 use Rattle.listing.specs.declared.Listed.{Listed}
-use Rattle.listing.specs.Listing.{eventLines}
+use Rattle.lines.specs.Listing.{eventLines}
 
 -- "A last event cut short gets 3, in any list of events": what is left behind the whole events is an event of its own
 abbrev pub cutShort : List ℕ → List (List ℕ)

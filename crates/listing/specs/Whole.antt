@@ -9,7 +9,7 @@ use Rattle.desk.specs.declared.Held.{Held}
 use Rattle.desk.specs.declared.Answered.{Answered}
 use Rattle.desk.specs.Desk.{openedDesk}
 use Rattle.rules.specs.Laid.{heldRun, heldOpening}
-use Rattle.listing.specs.Listing.{headerLine, openingLine, footOf}
+use Rattle.lines.specs.Listing.{headerLine, openingLine, footOf}
 use Rattle.listing.specs.Opening.{balanceBytes, balancesIn}
 use Rattle.listing.specs.Piece.{eventsIn, pieceLines}
 

@@ -1,8 +1,4 @@
-// The bench program's listing: bytes filled into a buffer that the caller lends, and the opening bytes of its input read.
-mod numbers; // numbers.rt: a byte put
-mod text; // text.rt: text and decimal numbers
-mod lines; // lines.rt: the listing's lines
-mod purses; // purses.rt: the purse lines and the last line
+// The bench program's listing: the opening bytes of its input read, and its events listed piece by piece. The lines are crate lines.
 mod pieces; // pieces.rt: the events of a piece of the input
 mod input; // input.rt: purse count and balances
 
@@ -10,10 +6,10 @@ use desk::Held;
 pub use input::balance_bytes;
 pub use input::read_opening;
 pub use lines::events;
+pub use lines::foot;
 pub use lines::header;
 pub use lines::refused;
 pub use pieces::piece;
-pub use purses::foot;
 ghost use mathlib.Core.Path.{_≡_};
 
 // The balances of an opening, on 32 places, and how many they are: none where opening is to answer 20.

@@ -1,8 +1,8 @@
 // The events of a piece of the input, run and listed.
 use crate::Listed;
-use crate::lines::events;
 use bench::Ran;
 use desk::Held;
+use lines::events;
 ghost use mathlib.Core.Path.{_≡_};
 ghost use mathlib.Core.List.{_++_};
 ghost use Prim.Native.Nat.{_≤_};

@@ -1,13 +1,30 @@
 // A test rig's door to every entry: requests on standard input, a reply to each on standard output. It turns bytes into records, calls the
 // library once, and turns records into bytes. A request that is cut short or of another letter ends it.
-mod parts; // parts.rt: details, messages, entries and records as bytes
 mod states; // states.rt: a whole state as bytes
 
+use crate::states::STATE_WIDTH;
+use bigendian::count_at;
+use bigendian::number_at;
+use bigendian::put_byte;
+use bigendian::put_count;
+use bigendian::put_number;
+use bigendian::wide;
 use desk::Held;
+use layout::widths::BYTE_WIDTH;
+use layout::widths::DETAILS_WIDTH;
+use layout::widths::MESSAGE_WIDTH;
+use layout::widths::NUMBER_WIDTH;
+use layout::widths::PURSE_WIDTH;
 use libc::STDIN_FILENO;
 use libc::STDOUT_FILENO;
+use parts::get_message;
+use parts::get_purse;
+use parts::put_details;
+use parts::put_message;
+use parts::put_purse;
 use purse::Amount;
 use purse::CardEvent;
+use purse::Message;
 use purse::Name;
 use purse::Seq;
 ghost use Prim.Native.Nat.{_≤_, _<_};
@@ -20,7 +37,7 @@ fn write_byte(v: u8) -> bool {
 }
 
 fn write_state(held: Held) -> bool {
-    let mut bytes = [0u8; 12037];
+    let mut bytes = [0u8; STATE_WIDTH];
     states::put_state(&mut bytes, held);
     io::write_all(STDOUT_FILENO, &bytes)
 }
@@ -48,7 +65,7 @@ fn size1() -> usize {
     if io::read_full(STDIN_FILENO, &mut one) != 1 {
         return 70000;
     }
-    parts::wide(one[0]) as usize
+    wide(one[0]) as usize
 }
 
 // A length of two bytes, likewise.
@@ -57,7 +74,7 @@ fn size2() -> usize {
     if io::read_full(STDIN_FILENO, &mut two) != 2 {
         return 70000;
     }
-    parts::count(&two, 0) as usize
+    count_at(&two, 0) as usize
 }
 
 // An event: length 1, that many bytes.
@@ -81,7 +98,7 @@ fn balances(bytes: &[u8], n: usize) -> [u32; 256]
     let mut all = [0u32; 256];
     let mut i: usize = 0;
     while i < n {
-        all[i] = parts::number(bytes, 4 * i);
+        all[i] = number_at(bytes, NUMBER_WIDTH * i);
         i += 1;
     }
     all
@@ -93,7 +110,7 @@ fn opening(held: Held, bytes: &mut [u8]) -> bool {
     if 255 < n {
         return false;
     }
-    if !fill(bytes, 4 * n) {
+    if !fill(bytes, NUMBER_WIDTH * n) {
         return false;
     }
     let all = balances(bytes, n);
@@ -122,7 +139,7 @@ fn write_into(held: Held, bytes: &mut [u8]) -> bool {
     let answer = w.answer;
     let short = (w.length % 65536) as u16;
     let mut head = [answer, 0, 0];
-    parts::put_count(&mut head, 1, short);
+    put_count(&mut head, BYTE_WIDTH, short);
     let is_first = io::write_all(STDOUT_FILENO, &head);
     let is_rest = io::write_all(STDOUT_FILENO, bytes);
     is_first & is_rest
@@ -142,16 +159,34 @@ fn claims(held: Held) -> bool {
     let answer = f.answer;
     let mut out = [answer, 0, 0, 0, 0];
     let figure = f.claims;
-    parts::put_number(&mut out, 1, figure);
+    put_number(&mut out, BYTE_WIDTH, figure);
     io::write_all(STDOUT_FILENO, &out)
 }
 
+// Where the parts of a card's request stand: own name 1, record, kind 1, counterparty 1, number 4, amount 4, message.
+const RECORD: usize = BYTE_WIDTH;
+
+const KIND: usize = RECORD + PURSE_WIDTH;
+
+const COUNTERPARTY: usize = KIND + BYTE_WIDTH;
+
+const NUMBER: usize = COUNTERPARTY + BYTE_WIDTH;
+
+const AMOUNT: usize = NUMBER + NUMBER_WIDTH;
+
+const MESSAGE: usize = AMOUNT + NUMBER_WIDTH;
+
+const CARD_WIDTH: usize = MESSAGE + MESSAGE_WIDTH;
+
+// And those of the reply: answer 1, record, message handed out, details handed out.
+const SENT: usize = RECORD + PURSE_WIDTH;
+
+const HANDED: usize = SENT + MESSAGE_WIDTH;
+
+const REPLY_WIDTH: usize = HANDED + DETAILS_WIDTH;
+
 // What a card is told by a request of that kind; an abort for a kind that there is not, which is never asked.
-fn told(bytes: &[u8], kind: u8) -> CardEvent {
-    let other = Name(parts::byte(bytes, 138));
-    let seq = Seq(parts::number(bytes, 139));
-    let amount = Amount(parts::number(bytes, 143));
-    let m = parts::message(bytes, 147);
+fn told(kind: u8, other: Name, seq: Seq, amount: Amount, m: Message) -> CardEvent {
     match kind {
         1 => CardEvent::StartFrom { other, seq, amount },
         2 => CardEvent::StartTo { other, seq, amount },
@@ -161,36 +196,40 @@ fn told(bytes: &[u8], kind: u8) -> CardEvent {
     }
 }
 
-// A card's step: own name 1, record, kind 1, counterparty 1, number 4, amount 4, message.
+// A card's step.
 fn card_step() -> bool {
-    let mut bytes = [0u8; 162];
-    if io::read_full(STDIN_FILENO, &mut bytes) != 162 {
+    let mut bytes = [0u8; CARD_WIDTH];
+    if io::read_full(STDIN_FILENO, &mut bytes) != CARD_WIDTH {
         return false;
     }
-    let kind = bytes[137];
+    let kind = bytes[KIND];
     let is_known = (1 <= kind) & (kind <= 6) & !(kind == 5);
     if !is_known {
         return false;
     }
     let own = Name(bytes[0]);
-    let p = parts::record(&bytes, 1);
-    let e = told(&bytes, kind);
+    let p = get_purse(&bytes, RECORD);
+    let other = Name(bytes[COUNTERPARTY]);
+    let seq = Seq(number_at(&bytes, NUMBER));
+    let amount = Amount(number_at(&bytes, AMOUNT));
+    let asked = get_message(&bytes, MESSAGE);
+    let e = told(kind, other, seq, amount, asked);
     let a = card::step(p, own, e);
     let q = a.purse;
     let m = a.message;
     let d = a.entry;
-    let mut out = [0u8; 166];
-    parts::put_byte(&mut out, 0, a.answer);
-    parts::put_record(&mut out, 1, q);
-    parts::put_message(&mut out, 137, m);
-    parts::put_details(&mut out, 152, d);
+    let mut out = [0u8; REPLY_WIDTH];
+    put_byte(&mut out, 0, a.answer);
+    put_purse(&mut out, RECORD, q);
+    put_message(&mut out, SENT, m);
+    put_details(&mut out, HANDED, d);
     io::write_all(STDOUT_FILENO, &out)
 }
 
 // A request over a state.
 fn over_state(letter: u8) -> bool {
-    let mut bytes = [0u8; 12037];
-    if io::read_full(STDIN_FILENO, &mut bytes) != 12037 {
+    let mut bytes = [0u8; STATE_WIDTH];
+    if io::read_full(STDIN_FILENO, &mut bytes) != STATE_WIDTH {
         return false;
     }
     let held = states::state(&bytes);

@@ -1,101 +1,64 @@
-// A state as bytes: purse count 1, 32 records of 136, message count 2, 256 messages of 15, archive count 2, 256 entries of 15. It goes in and
-// comes out raw, unused places too.
-use super::parts::byte;
-use super::parts::count;
-use super::parts::entry;
-use super::parts::message;
-use super::parts::put_byte;
-use super::parts::put_count;
-use super::parts::put_entry;
-use super::parts::put_message;
-use super::parts::put_record;
-use super::parts::record;
+// A state as bytes: purse count 1, 32 records, message count 2, 256 messages, archive count 2, 256 entries, each part as in an image. It goes
+// in and comes out raw, unused places too.
+use bigendian::count_at;
+use bigendian::put_byte;
+use bigendian::put_count;
 use desk::Archive;
 use desk::Desk;
-use desk::Entry;
 use desk::Ether;
 use desk::Held;
-use purse::Message;
-use purse::Purse;
+use layout::widths::BYTE_WIDTH;
+use layout::widths::COUNT_WIDTH;
+use layout::widths::ENTRY_WIDTH;
+use layout::widths::MESSAGE_WIDTH;
+use layout::widths::PURSE_WIDTH;
+use reading::get_entries;
+use reading::get_messages;
+use reading::get_purses;
+use writing::put_entries;
+use writing::put_messages;
+use writing::put_purses;
 
-fn table(s: &[u8]) -> [Purse; 32] {
-    let z = Purse::zero();
-    let mut t = [z; 32];
-    let mut i: usize = 0;
-    while i < 32 {
-        let p = record(s, 1 + 136 * i);
-        t[i] = p;
-        i += 1;
-    }
-    t
-}
+const RECORDS: usize = BYTE_WIDTH;
 
-fn ether(s: &[u8]) -> Ether {
-    let z = Message::zero();
-    let mut places = [z; 256];
-    let mut i: usize = 0;
-    while i < 256 {
-        let m = message(s, 4355 + 15 * i);
-        places[i] = m;
-        i += 1;
-    }
-    let count = count(s, 4353);
-    Ether { places, count }
-}
+const MESSAGE_COUNT: usize = RECORDS + 32 * PURSE_WIDTH;
 
-fn archive(s: &[u8]) -> Archive {
-    let z = Entry::zero();
-    let mut places = [z; 256];
-    let mut i: usize = 0;
-    while i < 256 {
-        let e = entry(s, 8197 + 15 * i);
-        places[i] = e;
-        i += 1;
-    }
-    let count = count(s, 8195);
-    Archive { places, count }
+const MESSAGES: usize = MESSAGE_COUNT + COUNT_WIDTH;
+
+const ARCHIVE_COUNT: usize = MESSAGES + 256 * MESSAGE_WIDTH;
+
+const ENTRIES: usize = ARCHIVE_COUNT + COUNT_WIDTH;
+
+pub(crate) const STATE_WIDTH: usize = ENTRIES + 256 * ENTRY_WIDTH;
+
+fn first(s: &[u8]) -> u8 {
+    if 0 < s.len() { s[0] } else { 0 }
 }
 
 // The state that bytes give.
 pub(crate) fn state(s: &[u8]) -> Held {
-    let purses = byte(s, 0);
-    let ether = ether(s);
-    let archive = archive(s);
-    let table = table(s);
-    let desk = Desk {
-        purses,
-        ether,
-        archive,
+    let purses = first(s);
+    let table = get_purses(s, RECORDS, 32);
+    let messages = count_at(s, MESSAGE_COUNT);
+    let sent = get_messages(s, MESSAGES, 256);
+    let entries = count_at(s, ARCHIVE_COUNT);
+    let archived = get_entries(s, ENTRIES, 256);
+    let ether = Ether {
+        places: sent,
+        count: messages,
     };
-    Held { table, desk }
-}
-
-fn put_table(out: &mut [u8], t: [Purse; 32]) {
-    let mut i: usize = 0;
-    while i < 32 {
-        let p = t[i];
-        put_record(out, 1 + 136 * i, p);
-        i += 1;
-    }
-}
-
-fn put_ether(out: &mut [u8], e: Ether) {
-    put_count(out, 4353, e.count);
-    let mut i: usize = 0;
-    while i < 256 {
-        let m = e.places[i];
-        put_message(out, 4355 + 15 * i, m);
-        i += 1;
-    }
-}
-
-fn put_archive(out: &mut [u8], a: Archive) {
-    put_count(out, 8195, a.count);
-    let mut i: usize = 0;
-    while i < 256 {
-        let e = a.places[i];
-        put_entry(out, 8197 + 15 * i, e);
-        i += 1;
+    let archive = Archive {
+        places: archived,
+        count: entries,
+    };
+    let desk = Desk {
+        purses: purses,
+        ether: ether,
+        archive: archive,
+    };
+    Held {
+        table: table,
+        desk: desk,
     }
 }
 
@@ -105,8 +68,12 @@ pub(crate) fn put_state(out: &mut [u8], held: Held) {
     let desk = held.desk;
     let ether = desk.ether;
     let archive = desk.archive;
+    let sent = ether.places;
+    let archived = archive.places;
     put_byte(out, 0, desk.purses);
-    put_table(out, table);
-    put_ether(out, ether);
-    put_archive(out, archive);
+    put_purses(out, RECORDS, table, 32);
+    put_count(out, MESSAGE_COUNT, ether.count);
+    put_messages(out, MESSAGES, sent, 256);
+    put_count(out, ARCHIVE_COUNT, archive.count);
+    put_entries(out, ENTRIES, archived, 256);
 }

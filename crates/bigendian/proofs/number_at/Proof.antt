@@ -1,5 +1,4 @@
--- `bigendian::number_at` meets its contract. Where the four bytes are there its sum is that of the definition, byte by byte; each is below 256,
--- so the sum fits.
+-- `bigendian::number_at` meets its contract. Where the four bytes are there its sum is that of the definition, byte by byte; each is below 256, so the sum fits.
 -- Assumes nothing.
 use native.Mathlib.Omega.{arith}
 use native.Mathlib.Nat.{add-zero}
@@ -10,14 +9,11 @@ use borrow.Author.Needs.{needs}
 use Rattle.bigendian.proofs.number_at.Statement.{statement}
 use Rattle.bigendian.proofs.number_at.Tie as tie
 
+left-requires : tie.Need-left-requires
+left-requires c κs = search needs
+
 returns : tie.Need-returns
 returns c = sym (number-missing _ _ (omega arith))
-
-sub-if2 : tie.Need-sub-if2
-sub-if2 c = search needs
-
-returns-2 : tie.Need-returns-2
-returns-2 c = sym (number-missing _ _ (omega arith))
 
 shared-slice-read-wide : tie.Need-shared-slice-read-wide
 shared-slice-read-wide c = search needs
@@ -70,17 +66,16 @@ mul-result-3 c = search needs
 add-result-3 : tie.Need-add-result-3
 add-result-3 c = search needs
 
-returns-3 : tie.Need-returns-3
+returns-2 : tie.Need-returns-2
 unfolding numberAt
-returns-3 c = simp add-zero (omega arith) ∙ sym (number-there _ _ (omega arith))
+returns-2 c = simp add-zero (omega arith) ∙ sym (number-there _ _ (omega arith))
 
 pub number-at-spec : {M : Type 1} → statement M
 number-at-spec =
     tie.close
     (tie.spec
+    left-requires
     returns
-    sub-if2
-    returns-2
     shared-slice-read-wide
     wide-requires
     add-wide
@@ -98,4 +93,4 @@ number-at-spec =
     add-result-2
     mul-result-3
     add-result-3
-    returns-3)
+    returns-2)

@@ -1,3 +1,5 @@
+-- `probe`'s `event` is safe and ends: the part that is handed on is as long as was filled.
+-- Assumes nothing.
 use native.Mathlib.Omega.{arith}
 use mathlib.Core.Path.{sym}
 use lib.Seq.{length-take-le}

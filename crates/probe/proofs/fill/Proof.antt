@@ -1,3 +1,5 @@
+-- `probe`'s `fill` is safe and ends: the part that is lent is as long as asked for.
+-- Assumes nothing.
 use native.Mathlib.Omega.{arith}
 use mathlib.Core.Path.{sym}
 use lib.Seq.{length-take-le}

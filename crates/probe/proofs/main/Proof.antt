@@ -1,3 +1,5 @@
+-- `probe`'s `main` is safe and ends: its loop counts down.
+-- Assumes nothing.
 use borrow.Author.Needs.{needs}
 use Rattle.probe.proofs.main.Statement.{statement}
 use Rattle.probe.proofs.main.Tie as tie

@@ -1,3 +1,5 @@
+-- `probe`'s `opening` is safe and ends: at most 255 balances are read.
+-- Assumes nothing.
 use native.Mathlib.Omega.{arith}
 use mathlib.Core.Path.{sym}
 use lib.Seq.{length-take-le}
