@@ -1,3 +1,4 @@
+pub mod Examples
 pub mod Coded
 pub mod Numbers
 pub mod Puts
