@@ -1,4 +1,4 @@
-/* The plain C of plain.c with the one idea of crates/table more: equal messages, and equal entries, are looked for by a 32-bit key
+/* The plain C of plain.c with the one idea of the table's test more: equal messages, and equal entries, are looked for by a 32-bit key
    first, and compared whole only where a key is found again. Beside plain.c it shows what the idea gives; ours beside it shows what
    the proof costs. */
 
@@ -29,7 +29,7 @@
 
 #include "keyed.h"
 
-/* The formula of `key` in crates/table/src/places.rt; benchmarks/run holds its numbers to that file. */
+/* The formula of `key` in crates/table_records/src/places.rt; benchmarks/run holds its numbers to that file. */
 uint32_t keyed_key(uint8_t tag, const Details *d) {
     return d->payee.value * 16777216u + d->payer.value * 524288u + tag * 4194304u +
            d->payeeseq.value + d->payerseq.value * 2654435761u + d->amount.value * 40503u;

@@ -17,7 +17,7 @@ use Rattle.purse.proofs.Payments.{entry-role, as-payer, as-payee}
 use Rattle.desk.specs.declared.Entry.{Entry}
 use Rattle.rules.specs.Bench.{Bench, purseAt, isAt}
 use Rattle.rules.specs.Table.{inTable, usedBy, messageOk, archiveOk, clearOk}
-use Rattle.table.specs.Records.{within, messageAlone, entryAlone, payeeOk, payerOk, messageBeside, holds, entryBeside}
+use Rattle.table_records.specs.Records.{within, messageAlone, entryAlone, payeeOk, payerOk, messageBeside, holds, entryBeside}
 
 module _ (b : Bench) (n : ℕ) (many : length (b .purses) ≡ n) where
   pub within-table : (d : Details) → within n d ≡ inTable b d

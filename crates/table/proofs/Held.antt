@@ -29,10 +29,10 @@ use Rattle.rules.specs.Table.{countsOk, inTable, purseOk, messageOk, archiveOk,
 use Rattle.rules.specs.Laid.{seen, isZeroPurse, isZeroMessage, isZeroEntry, placesOk, heldOk}
 use Rattle.rules.proofs.Facts.{Lists, is-lists, lists-is, is-table}
 use Rattle.rules.proofs.Places.{places-long, places-fit, places-used, places-rest, Obeys, obeys, obeyed}
-use Rattle.table.specs.Records.{standing, collected, when, within, messageAlone, messageBeside, messageIn, entryAlone, entryBeside, entryIn, holds, namesOk, recordOf, recordOk, recordsOk, messagesOk, entriesOk, byMessages}
-use Rattle.table.proofs.Same.{when-i, when-e}
+use Rattle.table_records.specs.Records.{standing, collected, when, within, messageAlone, messageBeside, messageIn, entryAlone, entryBeside, entryIn, holds, namesOk, recordOf, recordOk, recordsOk, messagesOk, entriesOk, byMessages}
+use Rattle.table_records.proofs.Same.{when-i, when-e}
 use Rattle.table.proofs.Beside.{within-table, message-alone, message-beside, message-whole, inside, entry-alone, entry-beside, entry-whole, entry-once}
-use Rattle.table.proofs.Record.{is-used, is-unused}
+use Rattle.table_records.proofs.Record.{is-used, is-unused}
 use Rattle.table.proofs.Once.{record-apart, archived-apart, apart-archived, once-parts}
 
 -- an unused place is zero

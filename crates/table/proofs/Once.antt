@@ -26,8 +26,8 @@ use Rattle.desk.specs.declared.Entry.{Entry}
 use Rattle.desk.specs.Desk.{sameEntry}
 use Rattle.rules.specs.Bench.{Bench, purseAt, running, kept, archivedBy}
 use Rattle.rules.specs.Table.{onceOk}
-use Rattle.table.specs.Records.{when, holds, entryAlone}
-use Rattle.table.proofs.Same.{turn-number, turn-details}
+use Rattle.table_records.specs.Records.{when, holds, entryAlone}
+use Rattle.table_records.proofs.Same.{turn-number, turn-details}
 
 -- running details and log of a well-formed record
 module _ (own : Name) (p : Purse) (w : wellFormed own p ≡ true) where

@@ -1,0 +1,4 @@
+pub mod Same
+pub mod Record
+pub mod Asked
+pub mod Lookups
