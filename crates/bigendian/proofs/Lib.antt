@@ -1,4 +1,4 @@
-pub mod Examples
+pub mod Big
 pub mod Coded
 pub mod Numbers
 pub mod Puts
