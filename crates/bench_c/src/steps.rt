@@ -1,12 +1,12 @@
 // The bench's steps by value, as the entries call them: an event's bytes in place of the event, a table and a desk in place of what both make.
 use bench::Ran;
-use opens::opening;
 use bench::run;
 use claims::claims;
 use desk::Answered;
 use desk::Desk;
 use desk::Figure;
 use desk::Held;
+use opens::opening;
 use purse::Purse;
 ghost use mathlib.Core.Path.{_≡_};
 ghost use mathlib.Core.List.{_++_};

@@ -1,12 +1,12 @@
 // The card: one purse record and its step. Told its own name, a card takes a start, a message, an abort or a collect, and gives the
 // answer's number, the record and what it hands out. It knows nothing of a bench.
+use form::well_formed;
 use purse::CardAnswer;
 use purse::CardEvent;
 use purse::Message;
 use purse::Name;
 use purse::Purse;
 use refusals::Head;
-use refusals::form::well_formed;
 ghost use mathlib.Core.Path.{_≡_};
 ghost use Rattle.purse.specs.Card.{stepBy};
 ghost use Rattle.card.specs.Act.{turnBy, actBy};

@@ -44,8 +44,8 @@ seen-lent : (d : Desk) (e : Event) → length (d .ether .places) ≡ 256
 unfolding within seenWith
 seen-lent d e long =
     elim (which (ltb (deliveredAt e) 256)) [
-      inl p ↦ rw p
-    | inr p ↦ rw (p, List·getD-eq-default (d .ether .places) zeroMessage {n = deliveredAt e} (omega (arith, long, ltb-false (deliveredAt e) 256 p)))
+      | inl p ↦ rw p
+      | inr p ↦ rw (p, List·getD-eq-default (d .ether .places) zeroMessage {n = deliveredAt e} (omega (arith, long, ltb-false (deliveredAt e) 256 p)))
     ]
 
 -- the record and the desk that a deed leaves
@@ -108,8 +108,8 @@ module _ (d : Desk) where
     unfolding deedOf settled
     settles-so p a t =
         elim (which (eqb (t .answer) 0)) [
-          inl z ↦ rw z (does-so (recordAfter p (t .head) (t .log)) (changeOf p a (t .message)))
-        | inr z ↦ rw z (stays-so (t .answer) p)
+          | inl z ↦ rw z (does-so (recordAfter p (t .head) (t .log)) (changeOf p a (t .message)))
+          | inr z ↦ rw z (stays-so (t .answer) p)
         ]
 
   acts-so : (p : Purse) (e : Event) → actedBy d (deedBy p (seenAt d (deliveredAt e)) last entry e) ≡ actOn p d e

@@ -196,4 +196,3 @@ pub fn lost(ether: Ether, place: usize) -> Ether
     let changed = ether.take_out(place);
     changed.ether
 }
-

@@ -2,10 +2,10 @@
 use desk::Desk;
 use layout::Written;
 use purse::Purse;
-use walk_table::copied;
-use walk_table::stored;
 use steps::read_in;
 use steps::written;
+use walk_table::copied;
+use walk_table::stored;
 ghost use mathlib.Core.Path.{_≡_};
 ghost use Rattle.layout.specs.Calls.{heldWrite, heldBuffer, heldRead};
 ghost use Rattle.walk_table.specs.Lent.{held};

@@ -1,10 +1,9 @@
-// When a card refuses: the test of the rules about one purse alone, and the tests of each step in document 01's order.
+// When a card refuses: the head of a record, and the tests of each step in document 01's order.
 use purse::Amount;
 use purse::Details;
 use purse::Seq;
 
 pub mod numbers; // numbers.rt: the number that refuses a step, or 0
-pub mod form; // form.rt: the rules about one purse, and about the payment details that it holds
 mod heads; // heads.rt: the head of a record
 
 // The head of a record: a purse without its log, and `most`, the ceiling of its balance. A step's tests read nothing else, and most steps

@@ -1,6 +1,5 @@
 // The number that refuses a step behind the test of the record, or 0: its tests one by one, top to bottom, in document 01's order.
 // They read the head of the record alone.
-use super::form::is_legal;
 use crate::Head;
 use purse::Amount;
 use purse::Message;
@@ -8,7 +7,15 @@ use purse::Name;
 use purse::Purse;
 use purse::tested;
 ghost use mathlib.Core.Path.{_≡_};
+ghost use Rattle.purse.specs.Details.{legal};
 ghost use Rattle.refusals.specs.Numbers.{startNumber, fromNumber, toNumber, expected, fits, deliverNumber, abortNumber, collectNumber};
+
+// An amount from 1 to the ceiling.
+pub fn is_legal(a: Amount) -> bool
+    ensures { λ r. ⌜ r ≡ legal a ⌝ }
+{
+    (1 <= a.0) & (a.0 <= Purse::MAX_AMOUNT)
+}
 
 // The tests that both starts have.
 fn start_number(h: Head, own: Name, other: Name, amount: Amount) -> u8

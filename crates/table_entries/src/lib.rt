@@ -1,9 +1,9 @@
 // The archive's entries: each once, beside the record of the purse that logged it.
 use desk::Archive;
 use desk::Entry;
+use form::is_entry;
+use form::is_unused;
 use purse::Purse;
-use refusals::form::is_entry;
-use refusals::form::is_unused;
 use table_records::places::is_within;
 use table_records::places::key;
 use table_records::places::place;

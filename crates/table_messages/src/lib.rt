@@ -1,9 +1,9 @@
 // The messages: each once, beside the records that it names.
 use desk::Ether;
+use form::is_named;
+use form::is_unused;
 use purse::Message;
 use purse::Purse;
-use refusals::form::is_named;
-use refusals::form::is_unused;
 use table_records::places::is_within;
 use table_records::places::key;
 use table_records::places::place;

@@ -16,7 +16,7 @@ use Rattle.purse.specs.Lists.{every, all, among}
 use Rattle.purse.specs.Details.{zeroDetails, sameDetails}
 use Rattle.purse.specs.Purse.{zeroPurse, wellFormed}
 use Rattle.purse.proofs.Bools.{which}
-use Rattle.refusals.proofs.Parts.{every-split}
+use Rattle.form.proofs.Parts.{every-split}
 use Rattle.rules.specs.Bench.{called, kept}
 use Rattle.rules.specs.Laid.{isZeroPurse}
 use Rattle.table_records.specs.Records.{within, holds, namesOk, recordOk, recordsOk}

@@ -1,12 +1,12 @@
 // One record: what its running details and its log name and hold, and whether it is unused.
 use crate::places::at_most;
 use crate::places::is_within;
+use form::is_log_unused;
+use form::is_unused;
+use form::well_formed;
 use purse::Details;
 use purse::Name;
 use purse::Purse;
-use refusals::form::is_log_unused;
-use refusals::form::is_unused;
-use refusals::form::well_formed;
 ghost use mathlib.Core.Path.{_≡_};
 ghost use Rattle.rules.specs.Laid.{isZeroPurse};
 ghost use Rattle.table_records.specs.Records.{namesOk, holds, recordsOk};

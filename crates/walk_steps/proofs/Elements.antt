@@ -48,7 +48,11 @@ module _ (R : RattleType) {X : Type 0} (into : X → R .Denot) (f : R .Denot →
 
     -- one member replaced
     pub array-written : (j : ℕ) (x : X) → Is R (into x) (f (into x) ∷ []) → Is (Array R n) (map into (set l j x)) (arrayVal (map f (map into (set l j x))) ∷ [])
-    array-written j x x-is =
-        (map f (map into (set l j x)), ((refl, length-map (set l j x) into ∙ length-set l j x ∙ sym (length-map l into) ∙ is .1 .0 .1),
+    array-written j x x-is = (
+      map f (map into (set l j x)),
+      (
+        (refl, length-map (set l j x) into ∙ length-set l j x ∙ sym (length-map l into) ∙ is .1 .0 .1),
         each-told (set l j x) (set (is .0) j (f (into x))) (subst (λ (xs : List (R .Denot)). shadow (each (R .Denot) (R .own) xs (set (is .0) j (f (into x))))) (sym (map-set into l j x))
-        (each-set R (into x) (f (into x)) (map into l) (is .0) (is .1 .1) x-is j))))
+            (each-set R (into x) (f (into x)) (map into l) (is .0) (is .1 .1) x-is j)),
+      ),
+    )

@@ -221,7 +221,6 @@ module _ {M₁ : Type 1} (𝓤 : URA M₁) (H : Heap 𝓤) (A : Atoms 𝓤) (W :
         abbrev typed-x : (l : ℕ) → l < 256 → Holds (hasTy X′.mir (getD xs l (xval zeroEntry))) × WT (getD xs l (xval zeroEntry))
         typed-x l less = subst (λ (v : Val). Holds (hasTy X′.mir v) × WT v) (sym (xvals-at (d .archive .places) l)) (LL.lawful X.the-type X′.the-laws 𝓤 H A W .typed (getD (d .archive .places) l zeroEntry) _ (entry-is (d .archive) _ (archive-is d _ was) l less) .0)
 
-
         module _ (c : Deed) (v₉ : Val) (c-was : Is C.the-row c (v₉ ∷ [])) (c-is : c ≡ deedAt p d (decoded es)) where
           abbrev c-so : Is C.the-row c (cval c ∷ [])
           c-so = subst (Is C.the-row c) (LL.tells C.the-type C′.the-laws c _ c-was) c-was
@@ -267,7 +266,6 @@ module _ {M₁ : Type 1} (𝓤 : URA M₁) (H : Heap 𝓤) (A : Atoms 𝓤) (W :
                 exec ! C₁ Λ E₁ mir.t-32 (atRet E₁ Post) $ leaves-lost e _ _ (subst (Is E.the-row e) (LL.tells E.the-type E′.the-laws e _ e-is) e-is) (is-true _ z) is))
                 (λ z. leaves (if-false _ z))
 
-
           -- the message stands there: then the entry
           stores-entry : (v₁₁ v₁₂ v₁₃ v₁₅ v₁₆ v₁₇ v₁₉ v₂₀ v₂₁ v₂₃ v₂₄ : Val) → Sq W (Cx (cell (parts u (set ms i (mval (c .message))) (c .messages) xs k)) opened (froom C′.mir l₀ 0) (fat fullShare (tyInt w64) l₄ 0 (vint w64 j)) (fat fullShare (tyInt w16) l₅ 0 (vint w16 n)) (fat fullShare (tyInt w64) l₆ 0 (vint w64 i)) (fat fullShare (tyInt w16) l₇ 0 (vint w16 k)) (fat fullShare (tyInt w64) l₈ 0 (vint w64 h)) (fat fullShare C′.mir l₉ 0 (cval c)) (fat fullShare (tyInt w8) l₁₀ 0 (vint w8 u)) (fat fullShare (tyInt w64) l₁₁ 0 v₁₁) (fat fullShare tyPtr l₁₂ 0 v₁₂) (fat fullShare tyPtr l₁₃ 0 v₁₃) (fat fullShare M′.mir l₁₄ 0 (mval m)) (fat fullShare (tyInt w64) l₁₅ 0 v₁₅) (fat fullShare tyPtr l₁₆ 0 v₁₆) (fat fullShare tyPtr l₁₇ 0 v₁₇) (fat fullShare M′.mir l₁₈ 0 (mval last)) (fat fullShare (tyInt w64) l₁₉ 0 v₁₉) (fat fullShare tyPtr l₂₀ 0 v₂₀) (fat fullShare tyPtr l₂₁ 0 v₂₁) (fat fullShare X′.mir l₂₂ 0 (xval x)) (fat fullShare tyPtr l₂₃ 0 v₂₃) (fat fullShare tyPtr l₂₄ 0 v₂₄) (froom tyPtr l₂₅ 0) (froom tyPtr l₂₆ 0) (froom tyBool l₂₇ 0) (froom E′.mir l₂₈ 0) (froom E′.mir l₂₉ 0)) (runs C₁ Λ E₁ mir.t-25 (atRet E₁ Post))
           stores-entry v₁₁ v₁₂ v₁₃ v₁₅ v₁₆ v₁₇ v₁₉ v₂₀ v₂₁ v₂₃ v₂₄ =
@@ -286,7 +284,6 @@ module _ {M₁ : Type 1} (𝓤 : URA M₁) (H : Heap 𝓤) (A : Atoms 𝓤) (W :
               there-x : h < length xs
               there-x = subst (λ (y : ℕ). h < y) (sym (xvals-long (d .archive) _ (archive-is d _ was))) (within-less k)
 
-
           -- `done_by` has answered c: what it says is stored behind the messages and behind the entries
           stores : (v₁₁ v₁₂ v₁₃ v₁₅ v₁₆ v₁₇ v₁₉ v₂₀ v₂₁ : Val) → Sq W (Cx (cell (dval d)) opened (froom C′.mir l₀ 0) (fat fullShare (tyInt w64) l₄ 0 (vint w64 j)) (fat fullShare (tyInt w16) l₅ 0 (vint w16 n)) (fat fullShare (tyInt w64) l₆ 0 (vint w64 i)) (fat fullShare (tyInt w16) l₇ 0 (vint w16 k)) (fat fullShare (tyInt w64) l₈ 0 (vint w64 h)) (froom C′.mir l₉ 0) (fat fullShare (tyInt w8) l₁₀ 0 (vint w8 u)) (fat fullShare (tyInt w64) l₁₁ 0 v₁₁) (fat fullShare tyPtr l₁₂ 0 v₁₂) (fat fullShare tyPtr l₁₃ 0 v₁₃) (fat fullShare M′.mir l₁₄ 0 (mval m)) (fat fullShare (tyInt w64) l₁₅ 0 v₁₅) (fat fullShare tyPtr l₁₆ 0 v₁₆) (fat fullShare tyPtr l₁₇ 0 v₁₇) (fat fullShare M′.mir l₁₈ 0 (mval last)) (fat fullShare (tyInt w64) l₁₉ 0 v₁₉) (fat fullShare tyPtr l₂₀ 0 v₂₀) (fat fullShare tyPtr l₂₁ 0 v₂₁) (fat fullShare X′.mir l₂₂ 0 (xval x)) (froom tyPtr l₂₃ 0) (froom tyPtr l₂₄ 0) (froom tyPtr l₂₅ 0) (froom tyPtr l₂₆ 0) (froom tyBool l₂₇ 0) (froom E′.mir l₂₈ 0) (froom E′.mir l₂₉ 0)) (lands C₁ Λ E₁ (place 9 []) v₉ mir.t-20 (atRet E₁ Post))
           stores v₁₁ v₁₂ v₁₃ v₁₅ v₁₆ v₁₇ v₁₉ v₂₀ v₂₁ =
@@ -303,7 +300,6 @@ module _ {M₁ : Type 1} (𝓤 : URA M₁) (H : Heap 𝓤) (A : Atoms 𝓤) (W :
             where
               there-m : i < length ms
               there-m = subst (λ (y : ℕ). i < y) (sym (mvals-long (d .ether) _ e-was)) (within-less n)
-
 
         there : (l : ℕ) → l < 256 → l < length ms
         there l less = subst (λ (y : ℕ). l < y) (sym (mvals-long (d .ether) _ e-was)) less
@@ -335,7 +331,6 @@ module _ {M₁ : Type 1} (𝓤 : URA M₁) (H : Heap 𝓤) (A : Atoms 𝓤) (W :
             rewrite ! 48 (λ (y : Val). ‵ (fat fullShare X′.mir l₂₂ 0 y)) (xvals-at (d .archive .places) h) refl $
             move ! (2 ∷ 3 ∷ []) $ calls-done-by ! at-mem run fm known κ₁ q₁ γ₁ b₁ o₁ p u n k m last x es p-was (purses-fit d _ was) (count-fits (d .ether) _ e-was) (entries-fit (d .archive) _ (archive-is d _ was)) (message-is (d .ether) _ e-was j (within-less _)) (message-is (d .ether) _ e-was i (within-less _)) (entry-is (d .archive) _ (archive-is d _ was) h (within-less _))
             (and-then ! (load ! (from ! (stop !)) (look ! 8 refl)) (and-then ! (load ! (from ! (stop !)) (look ! 24 refl)) (and-then ! (load ! (from ! (stop !)) (look ! 14 refl)) (and-then ! (load ! (from ! (stop !)) (look ! 18 refl)) (and-then ! (load ! (from ! (stop !)) (look ! 32 refl)) (and-then ! (load ! (from ! (stop !)) (look ! 40 refl)) (and-then ! (load ! (from ! (stop !)) (look ! 48 refl)) (and-then ! (load ! (from ! (stop !)) (look ! 10 refl)) (no-more !))))))))) (λ v r is e. move ! (2 ∷ 3 ∷ []) $ stores r v is (e ∙ asked p d (decoded es)) _ _ _ _ _ _ _ _ _)
-
 
         -- the place delivered is known: the counts are read
         counts : Sq W (Cx (cell (dval d)) opened (froom C′.mir l₀ 0) (fat fullShare (tyInt w64) l₄ 0 (vint w64 j)) (froom (tyInt w16) l₅ 0) (froom (tyInt w64) l₆ 0) (froom (tyInt w16) l₇ 0) (froom (tyInt w64) l₈ 0) (froom C′.mir l₉ 0) (froom (tyInt w8) l₁₀ 0) (froom (tyInt w64) l₁₁ 0) (froom tyPtr l₁₂ 0) (froom tyPtr l₁₃ 0) (froom M′.mir l₁₄ 0) (froom (tyInt w64) l₁₅ 0) (froom tyPtr l₁₆ 0) (froom tyPtr l₁₇ 0) (froom M′.mir l₁₈ 0) (froom (tyInt w64) l₁₉ 0) (froom tyPtr l₂₀ 0) (froom tyPtr l₂₁ 0) (froom X′.mir l₂₂ 0) (froom tyPtr l₂₃ 0) (froom tyPtr l₂₄ 0) (froom tyPtr l₂₅ 0) (froom tyPtr l₂₆ 0) (froom tyBool l₂₇ 0) (froom E′.mir l₂₈ 0) (froom E′.mir l₂₉ 0)) (runs C₁ Λ E₁ mir.t-2 (atRet E₁ Post))
