@@ -1,13 +1,11 @@
 // What an event does at the record that it names and the desk, where the table is well formed: the card is told what the event asks for,
 // at the head of the record; then the record is put together and the desk changed.
 use crate::Acted;
-use crate::Asked;
 use crate::Change;
-use crate::Seen;
-use crate::asks::ask;
-use crate::asks::delivered_at;
-use card::LogChange;
-use card::Turned;
+use asks::Asked;
+use asks::Seen;
+use asks::ask;
+use asks::delivered_at;
 use desk::Desk;
 use desk::Entry;
 use desk::Ether;
@@ -18,10 +16,12 @@ use purse::Purse;
 use purse::tested;
 use refusals::Head;
 use rules::Event;
+use turns::LogChange;
+use turns::Turned;
 ghost use mathlib.Core.Path.{_≡_};
 ghost use lib.ListN.{getD};
 ghost use Rattle.purse.specs.Details.{zeroMessage};
-ghost use Rattle.card.specs.Act.{refusedAt, turnBy};
+ghost use Rattle.turns.specs.Turns.{refusedAt, turnBy};
 ghost use Rattle.acts.specs.Acts.{orFull, toldAt, toSend, entryOf, changeOf, carriedOut, actOn};
 
 // The head as it was, the log too, and nothing sent.
@@ -40,7 +40,7 @@ fn left(head: Head, n: u8) -> Turned
 fn collect(head: Head, own: Name, full: bool) -> Turned
     ensures { λ r. ⌜ r ≡ orFull full (turnBy head own CardEvent.Collect) ⌝ }
 {
-    let mut t = card::turn(head, own, CardEvent::Collect);
+    let mut t = turns::turn(head, own, CardEvent::Collect);
     t.answer = tested(t.answer, full, 15);
     t
 }
@@ -52,7 +52,7 @@ pub fn tell(head: Head, asked: Asked) -> Turned
     match asked {
         Asked::Refused(n) => left(head, n),
         Asked::Lose(_) => left(head, 0),
-        Asked::Tell { own, event } => card::turn(head, own, event),
+        Asked::Tell { own, event } => turns::turn(head, own, event),
         Asked::Collect { own, full } => collect(head, own, full),
     }
 }

@@ -25,8 +25,9 @@ use Rattle.purse.specs.Details.{zeroDetails, zeroMessage}
 use Rattle.purse.specs.Purse.{zeroPurse}
 use Rattle.refusals.specs.Heads.{headOf}
 use Rattle.refusals.specs.Numbers.{collectNumber}
-use Rattle.card.specs.declared.Turned.{Turned}
-use Rattle.card.specs.Act.{takenAt, turnCollect, turnBy, recordAfter, answeredBy, actBy}
+use Rattle.turns.specs.declared.Turned.{Turned}
+use Rattle.turns.specs.Turns.{takenAt, turnCollect, turnBy}
+use Rattle.card.specs.Act.{recordAfter, answeredBy, actBy}
 use Rattle.card.proofs.ByAct.{step-act}
 use Rattle.purse.proofs.Bools.{which}
 use Rattle.purse.proofs.Padded.{set-padded, push-padded, pull-padded, read-padded}
@@ -43,9 +44,10 @@ use Rattle.rules.specs.Steps.{Answer, withPurse, sending, carried, archiving, t
 use Rattle.rules.specs.Laid.{laid, seen, heldOk, heldStep}
 use Rattle.rules.proofs.Places.{seen-ok, laid-seen}
 use Rattle.rules.proofs.Facts.{Table, is-table}
-use Rattle.acts.specs.declared.Asked.the-variants as asks
+use Rattle.asks.specs.declared.Asked.the-variants as asks
 use Rattle.acts.specs.declared.Change.the-variants as change
-use Rattle.acts.specs.Acts.{placeIn, placeOf, deliveredAt, startTests, deliverTests, purseTests, loseTests, toTell, toCollect, toLose, asked, orFull, toldAt, toSend, changeOf, carriedOut, refusedOn, settled, answeredOn, actOn, putBack, byRecord}
+use Rattle.asks.specs.Asks.{placeIn, placeOf, deliveredAt, startTests, deliverTests, purseTests, loseTests, toTell, toCollect, toLose, asked}
+use Rattle.acts.specs.Acts.{orFull, toldAt, toSend, changeOf, carriedOut, refusedOn, settled, answeredOn, actOn, putBack, byRecord}
 
 -- an answer on the lists, laid out
 abbrev shown : Answer → Answered

@@ -29,12 +29,13 @@ use Rattle.rules.specs.declared.Event.{Event}
 use Rattle.rules.specs.Laid.{seen, isZeroPurse, isZeroMessage, isZeroEntry, placesOk, heldOk}
 use Rattle.rules.specs.Table.{tableOk}
 use Rattle.refusals.specs.Heads.{headOf}
-use Rattle.card.specs.declared.Turned.{Turned}
+use Rattle.turns.specs.declared.Turned.{Turned}
 use Rattle.card.specs.Act.{recordAfter}
-use Rattle.acts.specs.declared.Asked.{Asked}
+use Rattle.asks.specs.declared.Asked.{Asked}
 use Rattle.acts.specs.declared.Change.{Change}
 use Rattle.acts.specs.declared.Change.the-variants as change
-use Rattle.acts.specs.Acts.{placeOf, deliveredAt, asked, toldAt, changeOf, withEther, withArchive, carriedOut, settled, actOn, putBack, byRecord}
+use Rattle.asks.specs.Asks.{placeOf, deliveredAt, asked}
+use Rattle.acts.specs.Acts.{toldAt, changeOf, withEther, withArchive, carriedOut, settled, actOn, putBack, byRecord}
 use Rattle.acts.proofs.Told.{acted}
 use Rattle.bench.proofs.ByRecord.{stays}
 

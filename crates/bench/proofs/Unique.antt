@@ -14,7 +14,8 @@ use Rattle.rules.specs.Events.{decoded}
 use Rattle.rules.specs.Laid.{heldStep, heldRun, heldAnswers, heldOpening}
 use Rattle.acts.specs.declared.Acted.{Acted}
 use Rattle.bench.specs.declared.Ran.{Ran}
-use Rattle.acts.specs.Acts.{placeOf, actOn, byRecord}
+use Rattle.asks.specs.Asks.{placeOf}
+use Rattle.acts.specs.Acts.{actOn, byRecord}
 use Rattle.bench.specs.Runs.{pieces, taken}
 
 pub by-record-one : (h : Held) (l : List ℕ) (r s : Answered) → r ≡ byRecord h (decoded l) → s ≡ byRecord h (decoded l) → r ≡ s

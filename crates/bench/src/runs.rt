@@ -1,13 +1,13 @@
 // Many events: the rules are tested once, since every step keeps them.
 use crate::Ran;
 use acts::Change;
-use acts::Seen;
-use acts::ask;
 use acts::change_of;
-use acts::decode;
-use acts::delivered_at;
-use acts::place_of;
 use acts::tell;
+use asks::Seen;
+use asks::ask;
+use asks::decode;
+use asks::delivered_at;
+use asks::place_of;
 use desk::Desk;
 use desk::Held;
 use purse::Message;

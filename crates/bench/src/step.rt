@@ -1,7 +1,7 @@
 // An event at the whole bench: the rules first, then the one record that the event names.
 use acts::act;
-use acts::decode;
-use acts::place_of;
+use asks::decode;
+use asks::place_of;
 use desk::Answered;
 use desk::Held;
 ghost use mathlib.Core.Path.{_≡_};

@@ -34,7 +34,7 @@ use Rattle.deeds.specs.declared.Deed.{Deed}
 use Rattle.deeds.specs.Deeds.{deedAt, deskAfter}
 use Rattle.rules.specs.Events.{decoded}
 use Rattle.rules.specs.Laid.{heldOpening, heldClaims}
-use Rattle.acts.specs.Acts.{placeOf}
+use Rattle.asks.specs.Asks.{placeOf}
 use Rattle.walk_table.specs.Lent.{held}
 use Rattle.walk_steps.proofs.Lent.{asks, returned}
 use Rattle.walk_table.proofs.Slices.{Shared}

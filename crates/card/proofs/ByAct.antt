@@ -20,8 +20,9 @@ use Rattle.purse.proofs.Bools.{which}
 use Rattle.refusals.specs.Heads.{headOf}
 use Rattle.refusals.specs.Numbers.{fromNumber as fromAt, toNumber as toAt, deliverNumber as deliverAt, abortNumber as abortAt, collectNumber as collectAt}
 use Rattle.refusals.proofs.SameNumbers.{same-from, same-to, same-deliver, same-abort, same-collect}
-use Rattle.card.specs.declared.Turned.{Turned}
-use Rattle.card.specs.Act.{unlessAt, turnFrom, turnTo, deliveredAt, turnDeliver, abortedAt, turnAbort, turnCollect, answeredBy, actBy}
+use Rattle.turns.specs.declared.Turned.{Turned}
+use Rattle.turns.specs.Turns.{unlessAt, turnFrom, turnTo, deliveredAt, turnDeliver, abortedAt, turnAbort, turnCollect}
+use Rattle.card.specs.Act.{answeredBy, actBy}
 
 module _ (p : Purse) where
   -- put together where the step is done, else as it was

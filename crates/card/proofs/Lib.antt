@@ -1,2 +1,1 @@
 pub mod ByAct
-pub mod Cases

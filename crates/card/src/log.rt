@@ -1,11 +1,11 @@
 // A record put together after a step: its new head, and its exception log with what becomes of it.
-use crate::LogChange;
-use crate::Turned;
 use purse::CardAnswer;
 use purse::Details;
 use purse::Message;
 use purse::Purse;
 use refusals::Head;
+use turns::LogChange;
+use turns::Turned;
 ghost use mathlib.Core.Path.{_≡_};
 ghost use lib.ListN.{getD};
 ghost use Rattle.purse.specs.Details.{zeroDetails};

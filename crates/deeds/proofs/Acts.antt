@@ -15,18 +15,19 @@ use Rattle.purse.specs.declared.Purse.{Purse}
 use Rattle.purse.specs.Details.{zeroMessage}
 use Rattle.purse.proofs.Bools.{which}
 use Rattle.refusals.specs.Heads.{headOf}
-use Rattle.card.specs.declared.Turned.{Turned}
+use Rattle.turns.specs.declared.Turned.{Turned}
 use Rattle.card.specs.Act.{recordAfter}
 use Rattle.desk.specs.declared.Entry.{Entry}
 use Rattle.desk.specs.declared.Desk.{Desk}
 use Rattle.desk.specs.Desk.{zeroEntry, added, takenOut, stored}
 use Rattle.rules.specs.declared.Event.{Event}
-use Rattle.acts.specs.declared.Seen.{Seen}
+use Rattle.asks.specs.declared.Seen.{Seen}
 use Rattle.acts.specs.declared.Change.{Change}
 use Rattle.acts.specs.declared.Change.the-variants.{Nothing, Send, Lose, Store}
-use Rattle.acts.specs.declared.Asked.{Asked}
+use Rattle.asks.specs.declared.Asked.{Asked}
 use Rattle.acts.specs.declared.Acted.{Acted}
-use Rattle.acts.specs.Acts.{deliveredAt, seenAt, asked, toldAt, changeOf, carriedOut, settled, actOn}
+use Rattle.asks.specs.Asks.{deliveredAt, seenAt, asked}
+use Rattle.acts.specs.Acts.{toldAt, changeOf, carriedOut, settled, actOn}
 use Rattle.deeds.specs.declared.Deed.{Deed}
 use Rattle.deeds.specs.Deeds.{within, seenWith, deskStays, doing, deedOf, deedBy, deedAt, deskAfter}
 

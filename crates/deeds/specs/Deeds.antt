@@ -10,17 +10,18 @@ use Rattle.purse.specs.declared.Message.{Message}
 use Rattle.purse.specs.declared.Purse.{Purse}
 use Rattle.purse.specs.Details.{zeroMessage}
 use Rattle.refusals.specs.Heads.{headOf}
-use Rattle.card.specs.declared.Turned.{Turned}
+use Rattle.turns.specs.declared.Turned.{Turned}
 use Rattle.card.specs.Act.{recordAfter}
 use Rattle.desk.specs.declared.Entry.{Entry}
 use Rattle.desk.specs.declared.Desk.{Desk}
 use Rattle.desk.specs.Desk.{places, zeroEntry, takenOut}
 use Rattle.rules.specs.declared.Event.{Event}
-use Rattle.acts.specs.declared.Seen.{Seen}
-use Rattle.acts.specs.declared.Asked.{Asked}
+use Rattle.asks.specs.declared.Seen.{Seen}
+use Rattle.asks.specs.declared.Asked.{Asked}
 use Rattle.acts.specs.declared.Change.{Change}
 use Rattle.acts.specs.declared.Change.the-variants.{Nothing, Send, Lose, Store}
-use Rattle.acts.specs.Acts.{deliveredAt, asked, toldAt, changeOf, withEther}
+use Rattle.asks.specs.Asks.{deliveredAt, asked}
+use Rattle.acts.specs.Acts.{toldAt, changeOf, withEther}
 use Rattle.deeds.specs.declared.Deed.{Deed}
 
 -- the place n, or the last place where n is past all

@@ -1,15 +1,14 @@
 // What an event writes in a lent table and desk, place by place, so that nothing else is moved: worked out by value from the record that it
 // names and the few places that it reads.
-use acts::Asked;
 use acts::Change;
-use acts::Seen;
-use acts::ask;
 use acts::change_of;
-use acts::decode;
-use acts::delivered_at;
-use acts::place_of;
 use acts::tell;
-use card::Turned;
+use asks::Asked;
+use asks::Seen;
+use asks::ask;
+use asks::decode;
+use asks::delivered_at;
+use asks::place_of;
 use card::record;
 use desk::Entry;
 use desk::Ether;
@@ -17,10 +16,11 @@ use purse::Message;
 use purse::Purse;
 use refusals::Head;
 use rules::Event;
+use turns::Turned;
 ghost use mathlib.Core.Path.{_≡_};
 ghost use Rattle.rules.specs.Events.{decoded};
 ghost use Rattle.desk.specs.Desk.{takenOut};
-ghost use Rattle.acts.specs.Acts.{placeOf, deliveredAt};
+ghost use Rattle.asks.specs.Asks.{placeOf, deliveredAt};
 ghost use Rattle.deeds.specs.Deeds.{within, seenWith, deskStays, doing, deedOf, deedBy};
 
 // What an event writes: the answer, its record's next state, what then stands behind the messages and behind the entries with their

@@ -1,7 +1,7 @@
 -- Tables that break one rule each, beside one that obeys them all, by computation: every rule of "A table is well formed when all of these
 -- hold" is felt. The answer is 2 even to an event of no bytes.
 -- Assumes nothing.
-use Prim.Native.Nat.{ℕ}
+use Prim.Native.Nat.{ℕ, zero, suc}
 use mathlib.Core.Path.{_≡_, refl}
 use mathlib.Core.List.{List, [], _∷_, map}
 use lib.ListN.{length, replicate}
@@ -91,6 +91,22 @@ ether ms = bench (quiet ∷ quiet ∷ []) ms []
 abbrev shelf : List Entry → Bench
 shelf es = bench (quiet ∷ quiet ∷ []) [] es
 
+-- numbers below n
+abbrev numbers : ℕ → List ℕ
+numbers zero = []
+numbers (suc n) = n ∷ numbers n
+
+-- n requests, n entries of purse 0, no two equal, each by the rules: the counterparty's number is any
+abbrev requests : ℕ → List Message
+requests n = map (λ (i : ℕ). message request (payment i 1 5)) (numbers n)
+
+abbrev logged : ℕ → List Entry
+logged n = map (λ (i : ℕ). entry 0 (payment 1 i 5)) (numbers n)
+
+-- eight entries that a log may hold
+abbrev eight : List Details
+eight = map (λ (i : ℕ). payment 1 i 5) (numbers 8)
+
 -- each of these obeys the rules: a payer in epr with its request, a payee in epv with its value, one payment logged and archived by both
 abbrev sound : List Bench
 sound =
@@ -101,6 +117,10 @@ sound =
     ∷ state (purse 300 epr (payment 1 1 300) (payment 2 2 5 ∷ []))
     ∷ state (purse 4999700 epv (between 1 1 0 1) [])
     ∷ state (purse 0 epa (payment 1 1 300) [])
+    ∷ bench (replicate 32 (openedAt 0)) [] []
+    ∷ ether (requests 256)
+    ∷ shelf (logged 256)
+    ∷ state (purse 1000 idle zeroDetails eight)
     ∷ []
 
 abbrev broken : List Bench
@@ -108,12 +128,12 @@ broken =
     -- "1 to 32 purses", "at most 256 messages and 256 archive entries"
     bench [] [] []
     ∷ bench (replicate 33 (openedAt 0)) [] []
-    ∷ ether (replicate 257 (message request (payment 1 1 5)))
-    ∷ shelf (replicate 257 (entry 0 (payment 1 1 5)))
+    ∷ ether (requests 257)
+    ∷ shelf (logged 257)
     -- "every ceiling kept", "each status 0 to 3", "each message kind 1 to 3", "each purse's next number at least 1"
     ∷ state (purse 5000001 idle zeroDetails [])
     ∷ state (purse 1000 idle zeroDetails (payment 1 1 5000001 ∷ []))
-    ∷ state (withLogged 9 quiet)
+    ∷ state (withLogged 9 (purse 1000 idle zeroDetails eight))
     ∷ state (purse 1000 4 (payment 1 1 5) [])
     ∷ ether (message 0 (payment 1 1 5) ∷ [])
     ∷ ether (message 4 (payment 1 1 5) ∷ [])
@@ -163,13 +183,16 @@ broken =
     ∷ state (withLogged 0 (purse 1000 idle zeroDetails (payment 1 1 5 ∷ [])))
     ∷ []
 
--- the lent table and the desk: "lent table of 32 records", "Everything unused is zero"
-abbrev held : List Purse → List Message → List Entry → Held
-held ps ms es =
+-- the lent table and the desk: "lent table of 32 records", "Everything unused is zero", and counts above the places
+abbrev lent : List Purse → ℕ → List Message → ℕ → List Entry → ℕ → Held
+lent ps p ms m es e =
     record {
       table = ps;
-      desk = record { purses = 2; ether = record { places = ms; count = 0 }; archive = record { places = es; count = 0 } };
+      desk = record { purses = p; ether = record { places = ms; count = m }; archive = record { places = es; count = e } };
     }
+
+abbrev held : List Purse → List Message → List Entry → Held
+held ps ms es = lent ps 2 ms 0 es 0
 
 abbrev table : List Purse
 table = quiet ∷ quiet ∷ replicate 30 zeroPurse
@@ -180,6 +203,14 @@ messages = replicate 256 zeroMessage
 abbrev entries : List Entry
 entries = replicate 256 zeroEntry
 
+abbrev heldSound : List Held
+heldSound =
+    held table messages entries
+    ∷ lent (replicate 32 quiet) 32 messages 0 entries 0
+    ∷ lent table 2 (requests 256) 256 entries 0
+    ∷ lent table 2 messages 0 (logged 256) 256
+    ∷ []
+
 abbrev heldBroken : List Held
 heldBroken =
     held (quiet ∷ quiet ∷ replicate 29 zeroPurse) messages entries
@@ -187,6 +218,9 @@ heldBroken =
     ∷ held (quiet ∷ quiet ∷ openedAt 0 ∷ replicate 29 zeroPurse) messages entries
     ∷ held table (message 1 zeroDetails ∷ replicate 255 zeroMessage) entries
     ∷ held table messages (entry 1 zeroDetails ∷ replicate 255 zeroEntry)
+    ∷ lent (replicate 32 quiet) 33 messages 0 entries 0
+    ∷ lent table 2 (requests 256) 257 entries 0
+    ∷ lent table 2 messages 0 (logged 256) 257
     ∷ []
 
 abbrev answer : Bench → ℕ
@@ -198,7 +232,7 @@ heldAnswer h = heldStep h [] .answer
 pub record Felt : Type 0 where
   pub obey : map answer sound ≡ replicate (length sound) 3
   pub break : map answer broken ≡ replicate (length broken) 2
-  pub held-obey : heldAnswer (held table messages entries) ≡ 3
+  pub held-obey : map heldAnswer heldSound ≡ replicate (length heldSound) 3
   pub held-break : map heldAnswer heldBroken ≡ replicate (length heldBroken) 2
 
 pub felt : Felt

@@ -33,7 +33,7 @@ use Rattle.desk.specs.declared.Entry.{Entry}
 use Rattle.desk.specs.declared.Ether.{Ether}
 use Rattle.desk.specs.Desk.{takenOut}
 use Rattle.rules.specs.Events.{decoded}
-use Rattle.acts.specs.Acts.{deliveredAt}
+use Rattle.asks.specs.Asks.{deliveredAt}
 use Rattle.deeds.specs.declared.Deed.{Deed}
 use Rattle.deeds.specs.Deeds.{within, seenWith, deedBy}
 use Rattle.walk_steps.proofs.Lent.{asks, returned}

@@ -47,7 +47,8 @@ use Rattle.desk.specs.declared.Answered.{Answered}
 use Rattle.rules.specs.Events.{decoded}
 use Rattle.rules.specs.Laid.{heldOk, heldStep}
 use Rattle.acts.specs.declared.Acted.{Acted}
-use Rattle.acts.specs.Acts.{placeOf, actOn, putBack, byRecord}
+use Rattle.asks.specs.Asks.{placeOf}
+use Rattle.acts.specs.Acts.{actOn, putBack, byRecord}
 use Rattle.bench.proofs.ByRecord.{step-by-record, place-below}
 use Rattle.deeds.specs.declared.Deed.{Deed}
 use Rattle.deeds.specs.Deeds.{deedAt, deskAfter}

@@ -7,7 +7,7 @@ use borrow.Author.Tests.{lt-ltb, le-ltb}
 use Rattle.purse.specs.declared.Message.{Message}
 use Rattle.purse.specs.declared.Purse.{Purse}
 use Rattle.desk.specs.declared.Entry.{Entry}
-use Rattle.acts.specs.declared.Seen.{Seen}
+use Rattle.asks.specs.declared.Seen.{Seen}
 use Rattle.acts.specs.declared.Change.the-variants.{Send, Lose, Store}
 use Rattle.deeds.specs.declared.Deed.{Deed}
 use Rattle.deeds.specs.Deeds.{deskStays, doing}

@@ -6,8 +6,8 @@ use borrow.Author.Tests.{lt-ltb, le-ltb}
 use Rattle.purse.specs.declared.Message.{Message}
 use Rattle.purse.specs.Details.{zeroMessage}
 use Rattle.rules.specs.declared.Event.{Event}
-use Rattle.acts.specs.declared.Seen.{Seen}
-use Rattle.acts.specs.Acts.{deliveredAt}
+use Rattle.asks.specs.declared.Seen.{Seen}
+use Rattle.asks.specs.Asks.{deliveredAt}
 use Rattle.deeds.specs.Deeds.{seenWith}
 use borrow.Author.Needs.{needs}
 use Rattle.deeds.proofs.seen.Statement.{statement}

@@ -49,7 +49,8 @@ use Rattle.desk.specs.declared.Desk.{Desk}
 use Rattle.desk.specs.Desk.{zeroEntry, takenOut}
 use Rattle.rules.specs.declared.Event.{Event}
 use Rattle.rules.specs.Events.{decoded}
-use Rattle.acts.specs.Acts.{deliveredAt, withEther}
+use Rattle.asks.specs.Asks.{deliveredAt}
+use Rattle.acts.specs.Acts.{withEther}
 use Rattle.deeds.specs.declared.Deed.{Deed}
 use Rattle.deeds.specs.Deeds.{within, seenWith, deedBy, deedAt, writtenOn, deskAfter}
 use Rattle.deeds.proofs.Acts.{within-less}

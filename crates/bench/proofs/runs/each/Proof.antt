@@ -5,9 +5,10 @@ use Rattle.bench.proofs.Filling.{Going, going-start, going-on, going-en
 use Rattle.bench.proofs.ByRecord.{place-below}
 use Rattle.bench.proofs.Parts.{bench, long-parts, settledAt, by-asked, when-refused, when-nothing, when-sent, when-lost, when-stored}
 use Rattle.refusals.specs.declared.Head.{Head}
-use Rattle.card.specs.declared.Turned.{Turned}
-use Rattle.acts.specs.declared.Asked.{Asked}
-use Rattle.acts.specs.Acts.{deliveredAt, toldAt, byRecord}
+use Rattle.turns.specs.declared.Turned.{Turned}
+use Rattle.asks.specs.declared.Asked.{Asked}
+use Rattle.asks.specs.Asks.{deliveredAt}
+use Rattle.acts.specs.Acts.{toldAt, byRecord}
 use Rattle.purse.proofs.Lists.{at-any}
 use Rattle.purse.specs.Details.{zeroMessage}
 use Rattle.purse.specs.Purse.{zeroPurse}

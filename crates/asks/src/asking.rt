@@ -1,0 +1,177 @@
+// What an event asks for: the record that it names, the message that it delivers, and the tests that read the desk, in document 01's order.
+use crate::Asked;
+use crate::Seen;
+use purse::CardEvent;
+use purse::Name;
+use purse::tested;
+use rules::Event;
+ghost use mathlib.Core.Path.{_≡_};
+ghost use Rattle.purse.specs.Tests.{first};
+ghost use Rattle.asks.specs.Asks.{placeIn, placeOf, deliveredAt, startTests, deliverTests, purseTests, loseTests, toTell, toCollect, toLose, asked};
+
+// The place of a name in the table of 32; 0 for a name above 31.
+fn place_in(name: Name) -> usize
+    ensures { λ r. ⌜ r ≡ placeIn name ⌝ }
+{
+    let n = name.0;
+    if n <= Name::LAST { n as usize } else { 0 }
+}
+
+// The record that an event names; 0 where it names none.
+pub fn place_of(event: Event) -> usize
+    ensures { λ r. ⌜ r ≡ placeOf event ⌝ }
+{
+    match event {
+        Event::Malformed => 0,
+        Event::StartFrom {
+            purse,
+            other: _,
+            seq: _,
+            amount: _,
+        } => place_in(purse),
+        Event::StartTo {
+            purse,
+            other: _,
+            seq: _,
+            amount: _,
+        } => place_in(purse),
+        Event::Deliver { purse, place: _ } => place_in(purse),
+        Event::Abort { purse } => place_in(purse),
+        Event::Lose { place: _ } => 0,
+        Event::Collect { purse } => place_in(purse),
+    }
+}
+
+// The place of the message that an event delivers; past the last place where it delivers none.
+pub fn delivered_at(event: Event) -> usize
+    ensures { λ r. ⌜ r ≡ deliveredAt event ⌝ }
+{
+    match event {
+        Event::Malformed => 256,
+        Event::StartFrom {
+            purse: _,
+            other: _,
+            seq: _,
+            amount: _,
+        } => 256,
+        Event::StartTo {
+            purse: _,
+            other: _,
+            seq: _,
+            amount: _,
+        } => 256,
+        Event::Deliver { purse: _, place } => place as usize,
+        Event::Abort { purse: _ } => 256,
+        Event::Lose { place: _ } => 256,
+        Event::Collect { purse: _ } => 256,
+    }
+}
+
+fn start_number(purses: u8, own: Name, other: Name) -> u8
+    ensures { λ r. ⌜ r ≡ first (startTests purses own other) ⌝ }
+{
+    let n = tested(0, purses <= own.0, 4); // the purse first
+    let n = tested(n, purses <= other.0, 6); // then its counterparty
+    n
+}
+
+fn deliver_number(purses: u8, messages: u16, own: Name, place: u32) -> u8
+    ensures { λ r. ⌜ r ≡ first (deliverTests purses messages own place) ⌝ }
+{
+    let n = tested(0, purses <= own.0, 4);
+    let n = tested(n, wide(messages) <= place, 5);
+    n
+}
+
+fn purse_number(purses: u8, own: Name) -> u8
+    ensures { λ r. ⌜ r ≡ first (purseTests purses own) ⌝ }
+{
+    tested(0, purses <= own.0, 4)
+}
+
+fn lose_number(messages: u16, place: u32) -> u8
+    ensures { λ r. ⌜ r ≡ first (loseTests messages place) ⌝ }
+{
+    tested(0, wide(messages) <= place, 5)
+}
+
+fn wide(count: u16) -> u32
+    ensures { λ r. ⌜ r ≡ count ⌝ }
+{
+    count as u32
+}
+
+// The card is told, where no test before found a number.
+fn telling(n: u8, own: Name, event: CardEvent) -> Asked
+    ensures { λ r. ⌜ r ≡ toTell n own event ⌝ }
+{
+    if n == 0 {
+        Asked::Tell { own, event }
+    } else {
+        Asked::Refused(n)
+    }
+}
+
+// The card is told to collect, likewise; the archive is full with 256 entries.
+fn collecting(n: u8, own: Name, entries: u16) -> Asked
+    ensures { λ r. ⌜ r ≡ toCollect n own entries ⌝ }
+{
+    if n == 0 {
+        let full = 256 <= entries;
+        Asked::Collect { own, full }
+    } else {
+        Asked::Refused(n)
+    }
+}
+
+// The message at a place goes, likewise.
+fn losing(n: u8, place: u32) -> Asked
+    ensures { λ r. ⌜ r ≡ toLose n place ⌝ }
+{
+    if n == 0 {
+        Asked::Lose(place)
+    } else {
+        Asked::Refused(n)
+    }
+}
+
+// What an event asks for, by what is seen of the desk.
+pub fn ask(seen: Seen, event: Event) -> Asked
+    ensures { λ r. ⌜ r ≡ asked seen event ⌝ }
+{
+    match event {
+        Event::Malformed => Asked::Refused(3),
+        Event::StartFrom {
+            purse,
+            other,
+            seq,
+            amount,
+        } => {
+            let n = start_number(seen.purses, purse, other);
+            telling(n, purse, CardEvent::StartFrom { other, seq, amount })
+        }
+        Event::StartTo {
+            purse,
+            other,
+            seq,
+            amount,
+        } => {
+            let n = start_number(seen.purses, purse, other);
+            telling(n, purse, CardEvent::StartTo { other, seq, amount })
+        }
+        Event::Deliver { purse, place } => {
+            let n = deliver_number(seen.purses, seen.messages, purse, place);
+            let m = seen.message;
+            telling(n, purse, CardEvent::Deliver(m))
+        }
+        Event::Abort { purse } => {
+            let n = purse_number(seen.purses, purse);
+            telling(n, purse, CardEvent::Abort)
+        }
+        Event::Lose { place } => losing(lose_number(seen.messages, place), place),
+        Event::Collect { purse } => {
+            let n = purse_number(seen.purses, purse);
+            collecting(n, purse, seen.entries)
+        }
+    }
+}

@@ -1,0 +1,29 @@
+// What an event asks for: its bytes read, the record and the message that it means, and the tests that read the desk. By value.
+use purse::CardEvent;
+use purse::Message;
+use purse::Name;
+
+mod asking; // asking.rt: the tests that read the desk
+mod events; // events.rt: an event's bytes read
+
+pub use asking::ask;
+pub use asking::delivered_at;
+pub use asking::place_of;
+pub use events::decode;
+
+// What an event's tests read of the desk: its counts, and the message that is delivered, or an all-zero one.
+pub struct Seen {
+    pub purses: u8,
+    pub messages: u16,
+    pub entries: u16,
+    pub message: Message,
+}
+
+// What an event asks for, behind the tests that read the desk: it is refused; or a message goes; or the card is told something, and its
+// message is sent; or the card is told to collect, and its entry is stored in an archive that may be full.
+pub enum Asked {
+    Refused(u8),
+    Lose(u32),
+    Tell { own: Name, event: CardEvent },
+    Collect { own: Name, full: bool },
+}
