@@ -527,6 +527,8 @@ def interrupted(toy):
             stderr=subprocess.PIPE,
             env=environment,
             start_new_session=True,
+            # a test that itself runs in the background may ignore the signal, and hand that on
+            preexec_fn=lambda: signal.signal(sign, signal.SIG_DFL),
         )
         while not (toy.room / "started").exists() and time.monotonic() - began < PATIENCE:
             time.sleep(0.01)
