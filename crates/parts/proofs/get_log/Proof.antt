@@ -11,7 +11,6 @@ use Rattle.layout.specs.Records.{detailsAt}
 use borrow.Author.Needs.{needs}
 use Rattle.parts.proofs.get_log.Statement.{statement}
 use Rattle.parts.proofs.get_log.Tie as tie
-use Rattle.parts.proofs.get_log.Reads as reads
 
 abbrev Inv-loop : tie.InvT-loop
 Inv-loop s at log₀ i₀ from₀ log i from = (i ≤ 8) × Filled detailsAt detailsWidth s at 8 zeroDetails log i from

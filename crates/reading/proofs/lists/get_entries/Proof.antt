@@ -12,7 +12,6 @@ use Rattle.layout.specs.Records.{entryAt}
 use borrow.Author.Needs.{needs}
 use Rattle.reading.proofs.lists.get_entries.Statement.{statement}
 use Rattle.reading.proofs.lists.get_entries.Tie as tie
-use Rattle.reading.proofs.lists.get_entries.Reads as reads
 
 abbrev Inv-loop : tie.InvT-loop
 Inv-loop s at count n places₀ i₀ from₀ places i from = (i ≤ n) × Filled entryAt entryWidth s at 256 zeroEntry places i from

@@ -12,7 +12,6 @@ use Rattle.layout.specs.Records.{messageAt}
 use borrow.Author.Needs.{needs}
 use Rattle.reading.proofs.lists.get_messages.Statement.{statement}
 use Rattle.reading.proofs.lists.get_messages.Tie as tie
-use Rattle.reading.proofs.lists.get_messages.Reads as reads
 
 abbrev Inv-loop : tie.InvT-loop
 Inv-loop s at count n places₀ i₀ from₀ places i from = (i ≤ n) × Filled messageAt messageWidth s at 256 zeroMessage places i from

@@ -12,7 +12,6 @@ use Rattle.layout.specs.Records.{purseAt}
 use borrow.Author.Needs.{needs}
 use Rattle.reading.proofs.lists.get_purses.Statement.{statement}
 use Rattle.reading.proofs.lists.get_purses.Tie as tie
-use Rattle.reading.proofs.lists.get_purses.Reads as reads
 
 abbrev Inv-loop : tie.InvT-loop
 Inv-loop s at count n table₀ i₀ from₀ table i from = (i ≤ n) × Filled purseAt purseWidth s at 32 zeroPurse table i from
