@@ -29,7 +29,12 @@ use Rattle.asks.specs.declared.Asked.the-variants as asks
 use Rattle.asks.specs.Asks.{placeOf, deliveredAt, seenAt, asked}
 use Rattle.acts.specs.declared.Change.{Change}
 use Rattle.acts.specs.declared.Change.the-variants as change
-use Rattle.acts.specs.declared.Acted.{Acted}
+
+-- what an event does at the record that it names: the answer, and the record and the desk as they then stand
+pub record Acted : Type 0 where
+  pub answer : ℕ
+  pub purse : Purse
+  pub desk : Desk
 
 -- 15 where the archive is full, after the card's 14
 abbrev pub orFull : Bool → Turned → Turned

@@ -1,12 +1,9 @@
-// What an event does at the record that it names and the desk: the card told at the head of the record, and what that changes. By value.
-use desk::Desk;
+// What an event does: the card told at the head of the record that it names, and what that changes at the desk. By value.
 use desk::Entry;
 use purse::Message;
-use purse::Purse;
 
-mod tells; // tells.rt: the card told, and what it did settled
+mod tells; // tells.rt: the card told, and what that changes
 
-pub use tells::act;
 pub use tells::change_of;
 pub use tells::tell;
 
@@ -16,12 +13,4 @@ pub enum Change {
     Send(Message),
     Lose(u32),
     Store(Entry),
-}
-
-// What an event does at the record that it names: the answer, and the record and the desk as they then stand.
-#[repr(C)]
-pub struct Acted {
-    pub answer: u8,
-    pub purse: Purse,
-    pub desk: Desk,
 }

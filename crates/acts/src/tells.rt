@@ -1,28 +1,19 @@
-// What an event does at the record that it names and the desk, where the table is well formed: the card is told what the event asks for,
-// at the head of the record; then the record is put together and the desk changed.
-use crate::Acted;
+// What an event does, where the table is well formed: the card is told what the event asks for, at the head of the record, and what that
+// changes at the desk is chosen.
 use crate::Change;
 use asks::Asked;
-use asks::Seen;
-use asks::ask;
-use asks::delivered_at;
-use desk::Desk;
 use desk::Entry;
-use desk::Ether;
 use purse::CardEvent;
 use purse::Message;
 use purse::Name;
 use purse::Purse;
 use purse::tested;
 use refusals::Head;
-use rules::Event;
 use turns::LogChange;
 use turns::Turned;
 ghost use mathlib.Core.Path.{_≡_};
-ghost use lib.ListN.{getD};
-ghost use Rattle.purse.specs.Details.{zeroMessage};
 ghost use Rattle.turns.specs.Turns.{refusedAt, turnBy};
-ghost use Rattle.acts.specs.Acts.{orFull, toldAt, toSend, entryOf, changeOf, carriedOut, actOn};
+ghost use Rattle.acts.specs.Acts.{orFull, toldAt, toSend, entryOf, changeOf};
 
 // The head as it was, the log too, and nothing sent.
 fn left(head: Head, n: u8) -> Turned
@@ -88,96 +79,5 @@ pub fn change_of(p: Purse, asked: Asked, m: Message) -> Change
         Asked::Lose(place) => Change::Lose(place),
         Asked::Tell { own: _, event: _ } => sending(m),
         Asked::Collect { own, full: _ } => Change::Store(entry_of(p, own)),
-    }
-}
-
-// The message at a place; all zero past the last place.
-fn message_at(ether: Ether, at: usize) -> Message
-    ensures { λ r. ⌜ r ≡ getD (ether .places) at zeroMessage ⌝ }
-{
-    if at < 256 {
-        ether.places[at]
-    } else {
-        Message::zero()
-    }
-}
-
-// A change is made at the desk, q being the record's next state: answer 1 where the message sent is lost.
-fn carry_out(q: Purse, desk: Desk, change: Change) -> Acted
-    ensures { λ r. ⌜ r ≡ carriedOut q desk change ⌝ }
-{
-    match change {
-        Change::Nothing => Acted {
-            answer: 0,
-            purse: q,
-            desk: desk,
-        },
-        Change::Send(m) => {
-            let ether = desk.ether;
-            let changed = ether.add(m);
-            let next = changed.ether;
-            let answer = tested(0, changed.lost, 1);
-            let mut d = desk;
-            d.ether = next;
-            Acted {
-                answer: answer,
-                purse: q,
-                desk: d,
-            }
-        }
-        Change::Lose(place) => {
-            let ether = desk.ether;
-            let changed = ether.take_out(place as usize);
-            let next = changed.ether;
-            let mut d = desk;
-            d.ether = next;
-            Acted {
-                answer: 0,
-                purse: q,
-                desk: d,
-            }
-        }
-        Change::Store(entry) => {
-            let archive = desk.archive;
-            let next = archive.store(entry);
-            let mut d = desk;
-            d.archive = next;
-            Acted {
-                answer: 0,
-                purse: q,
-                desk: d,
-            }
-        }
-    }
-}
-
-// The step of an event at its record p and the desk. Where the card's number is 0, the record is put together and the change made; a
-// refusal gives the record and the desk back.
-pub fn act(p: Purse, desk: Desk, event: Event) -> Acted
-    ensures { λ r. ⌜ r ≡ actOn p desk event ⌝ }
-{
-    let m = message_at(desk.ether, delivered_at(event));
-    let seen = Seen {
-        purses: desk.purses,
-        messages: desk.ether.count,
-        entries: desk.archive.count,
-        message: m,
-    };
-    let asked = ask(seen, event);
-    let t = tell(Head::of(p), asked);
-    let m = t.message;
-    let change = change_of(p, asked, m);
-    let n = t.answer;
-    if n == 0 {
-        let head = t.head;
-        let log = t.log;
-        let q = card::record(p, head, log);
-        carry_out(q, desk, change)
-    } else {
-        Acted {
-            answer: n,
-            purse: p,
-            desk: desk,
-        }
     }
 }

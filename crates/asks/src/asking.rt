@@ -79,7 +79,8 @@ fn deliver_number(purses: u8, messages: u16, own: Name, place: u32) -> u8
     ensures { λ r. ⌜ r ≡ first (deliverTests purses messages own place) ⌝ }
 {
     let n = tested(0, purses <= own.0, 4);
-    let n = tested(n, wide(messages) <= place, 5);
+    let stand = messages as u32;
+    let n = tested(n, stand <= place, 5);
     n
 }
 
@@ -92,13 +93,8 @@ fn purse_number(purses: u8, own: Name) -> u8
 fn lose_number(messages: u16, place: u32) -> u8
     ensures { λ r. ⌜ r ≡ first (loseTests messages place) ⌝ }
 {
-    tested(0, wide(messages) <= place, 5)
-}
-
-fn wide(count: u16) -> u32
-    ensures { λ r. ⌜ r ≡ count ⌝ }
-{
-    count as u32
+    let stand = messages as u32;
+    tested(0, stand <= place, 5)
 }
 
 // The card is told, where no test before found a number.

@@ -5,21 +5,22 @@ use mathlib.Core.Path.{_≡_, refl, _∙_, sym, ap}
 use mathlib.Core.Bool.{true, false}
 use mathlib.Core.List.{List, [], _∷_, _++_, append-assoc, append-nil}
 use lib.ListN.{length, take, drop, set, replicate, length-set, take-append-drop}
-use lib.Seq.{drop-drop, drop-set-lt, take-suc-set}
+use lib.Seq.{drop-drop, drop-set-lt, take-all, take-suc-set}
 use native.Mathlib.Numerals.{add-one}
 use native.Mathlib.Omega.{arith}
 use mathlib.Core.Logic.{⊎-elim}
 use lib.Dec.{leb}
-use borrow.Author.Tests.{leb-true, leb-false}
+use borrow.Author.Tests.{leb-true, leb-false, ne-eqb}
 use Rattle.purse.proofs.Bools.{which}
 use Rattle.desk.specs.declared.Held.{Held}
 use Rattle.desk.specs.declared.Answered.{Answered}
 use Rattle.rules.specs.Events.{decoded}
 use Rattle.rules.specs.Laid.{heldOk, heldStep, heldRun, heldAnswers}
 use Rattle.rules.proofs.Carried.{held-kept}
-use Rattle.acts.specs.Acts.{byRecord}
+use Rattle.asks.specs.Asks.{placeOf, deliveredAt, asked}
+use Rattle.acts.specs.Acts.{toldAt, settled, actOn, byRecord}
 use Rattle.bench.specs.Runs.{smaller, pieces}
-use Rattle.bench.proofs.ByRecord.{step-by-record}
+use Rattle.acts.proofs.ByRecord.{stays, step-by-record}
 
 -- places filled from the front: those filled are the front of `whole`, the others as they were
 pub record Filled (whole rest before now : List ℕ) (i : ℕ) : Type 0 where
@@ -140,3 +141,12 @@ taken-fits n x y e =
     let l : y < x / 12 = leb-false _ _ w in
     (omega arith, omega arith))
     (which (leb (x / 12) y))
+
+-- an event alone is a run of one
+pub run-of-one : (h : Held) (l : List ℕ) → length l ≡ 12 → (heldRun h (pieces 1 l) ≡ heldStep h l .held) × (heldAnswers h (pieces 1 l) ≡ heldStep h l .answer ∷ [])
+run-of-one h l e = rw (take-all 12 l (omega arith)) (refl, refl)
+
+-- bytes that are not 12 are no event
+pub no-event : (h : Held) (l : List ℕ) → heldOk h ≡ true → (length l ≡ 12 → ⊥) → record { answer = 3; held = h } ≡ heldStep h l
+unfolding decoded byRecord actOn settled toldAt asked deliveredAt placeOf
+no-event h l w other = rw (ne-eqb (length l) 12 other) (stays h 3 0) ∙ sym (step-by-record h l w)

@@ -1,4 +1,3 @@
-pub mod ByRecord
 pub mod Filling
 pub mod Parts
 pub mod Unique

@@ -12,14 +12,10 @@ use Rattle.desk.specs.declared.Answered.{Answered}
 use Rattle.rules.specs.declared.Event.{Event}
 use Rattle.rules.specs.Events.{decoded}
 use Rattle.rules.specs.Laid.{heldStep, heldRun, heldAnswers, heldOpening}
-use Rattle.acts.specs.declared.Acted.{Acted}
 use Rattle.bench.specs.declared.Ran.{Ran}
 use Rattle.asks.specs.Asks.{placeOf}
 use Rattle.acts.specs.Acts.{actOn, byRecord}
 use Rattle.bench.specs.Runs.{pieces, taken}
-
-pub by-record-one : (h : Held) (l : List ℕ) (r s : Answered) → r ≡ byRecord h (decoded l) → s ≡ byRecord h (decoded l) → r ≡ s
-by-record-one h l r s e f = one e f
 
 pub event-one : (h : Held) (l : List ℕ) (r s : Answered) → r ≡ heldStep h l → s ≡ heldStep h l → r ≡ s
 event-one h l r s e f = one e f

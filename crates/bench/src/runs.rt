@@ -1,25 +1,21 @@
 // Many events: the rules are tested once, since every step keeps them.
 use crate::Ran;
-use acts::Change;
-use acts::change_of;
-use acts::tell;
-use asks::Seen;
-use asks::ask;
 use asks::decode;
 use asks::delivered_at;
 use asks::place_of;
+use deeds::behind;
+use deeds::deed_by;
+use deeds::lost;
+use deeds::within;
 use desk::Desk;
 use desk::Held;
-use purse::Message;
-use purse::tested;
-use refusals::Head;
 ghost use mathlib.Core.Path.{_≡_};
 ghost use mathlib.Core.Bool.{true};
 ghost use mathlib.Core.List.{_++_};
 ghost use Prim.Native.Nat.{_*_, _≤_};
 ghost use lib.ListN.{length, drop, replicate};
 ghost use Rattle.rules.specs.Laid.{heldOk, heldRun, heldAnswers};
-ghost use Rattle.bench.specs.Runs.{smaller, pieces, taken};
+ghost use Rattle.bench.specs.Runs.{smaller, pieces, runOf};
 
 fn smaller(a: usize, b: usize) -> usize
     ensures { λ r. ⌜ r ≡ smaller a b ⌝ }
@@ -27,8 +23,9 @@ fn smaller(a: usize, b: usize) -> usize
     if a <= b { a } else { b }
 }
 
-// The first n events, at a table that is well formed.
-fn each(held: Held, input: &[u8], answers: &mut [u8], n: usize) -> Held
+// The first n events, at a table that is well formed. Each is looked up (its record, the message that it delivers, the places behind the
+// messages and the entries), its deed chosen, and the deed written.
+pub(crate) fn each(held: Held, input: &[u8], answers: &mut [u8], n: usize) -> Held
     requires { ⌜ (heldOk held ≡ true) × (12 * n ≤ length (now input)) × (n ≤ length (now answers)) ⌝ }
     ensures { λ r. ⌜ (r ≡ heldRun held (pieces n (now (input .entry)))) × (now (answers .exit) ≡ heldAnswers held (pieces n (now (input .entry))) ++ drop n (now (answers .entry))) ⌝ }
 {
@@ -41,52 +38,31 @@ fn each(held: Held, input: &[u8], answers: &mut [u8], n: usize) -> Held
     while i < n {
         let at = 12 * i;
         let end = at + 12;
-        let e = decode(&input[at..end]);
-        let k = place_of(e);
+        let event = decode(&input[at..end]);
+        let k = place_of(event);
+        let from = within(delivered_at(event));
+        let messages = ether.count;
+        let last = behind(messages);
+        let entries = archive.count;
+        let stop = behind(entries);
         let p = table[k];
-        let j = delivered_at(e);
-        let m = if j < 256 {
-            ether.places[j]
-        } else {
-            Message::zero()
-        };
-        let seen = Seen {
-            purses: purses,
-            messages: ether.count,
-            entries: archive.count,
-            message: m,
-        };
-        let asked = ask(seen, e);
-        let t = tell(Head::of(p), asked);
-        let mut answer = t.answer;
-        // from 2 up nothing changes
-        if answer == 0 {
-            let head = t.head;
-            let log = t.log;
-            let m = t.message;
-            let change = change_of(p, asked, m);
-            let q = card::record(p, head, log);
-            table[k] = q;
-            match change {
-                Change::Nothing => {}
-                Change::Send(m) => {
-                    let changed = ether.add(m);
-                    let next = changed.ether;
-                    ether = next;
-                    answer = tested(0, changed.lost, 1);
-                }
-                Change::Lose(place) => {
-                    let changed = ether.take_out(place as usize);
-                    let next = changed.ether;
-                    ether = next;
-                }
-                Change::Store(entry) => {
-                    let next = archive.store(entry);
-                    archive = next;
-                }
-            }
+        let m = ether.places[from];
+        let l = ether.places[last];
+        let x = archive.places[stop];
+        let d = deed_by(p, purses, messages, entries, m, l, x, event);
+        let q = d.purse;
+        table[k] = q;
+        let sent = d.message;
+        ether.places[last] = sent;
+        ether.count = d.messages;
+        let kept = d.entry;
+        archive.places[stop] = kept;
+        archive.count = d.entries;
+        if d.loses {
+            let next = lost(ether, d.place);
+            ether = next;
         }
-        answers[i] = answer;
+        answers[i] = d.answer;
         i += 1;
     }
     let desk = Desk {
@@ -114,9 +90,9 @@ fn refuse(answers: &mut [u8], n: usize)
 
 // The whole events of the input, as many as there are places for answers. Places past them stay as they were.
 pub fn run(held: Held, input: &[u8], answers: &mut [u8]) -> Ran
-    ensures { λ r. ⌜ (r .taken ≡ taken (now (input .entry)) (now (answers .entry)))
-        × (r .held ≡ heldRun held (pieces (taken (now (input .entry)) (now (answers .entry))) (now (input .entry))))
-        × (now (answers .exit) ≡ heldAnswers held (pieces (taken (now (input .entry)) (now (answers .entry))) (now (input .entry))) ++ drop (taken (now (input .entry)) (now (answers .entry))) (now (answers .entry))) ⌝ }
+    ensures { λ r. ⌜ (r .taken ≡ runOf held (now (input .entry)) (now (answers .entry)) .taken)
+        × (r .held ≡ runOf held (now (input .entry)) (now (answers .entry)) .held)
+        × (now (answers .exit) ≡ runOf held (now (input .entry)) (now (answers .entry)) .answers) ⌝ }
 {
     let n = smaller(input.len() / 12, answers.len());
     if table::held_ok(held) {

@@ -13,10 +13,8 @@ use walk_table::copied;
 use walk_table::stored;
 use walk_table::table_ok;
 ghost use mathlib.Core.Path.{_≡_};
-ghost use mathlib.Core.List.{_++_};
-ghost use lib.ListN.{drop};
-ghost use Rattle.rules.specs.Laid.{heldStep, heldOpening, heldClaims, heldRun, heldAnswers};
-ghost use Rattle.bench.specs.Runs.{pieces, taken};
+ghost use Rattle.rules.specs.Laid.{heldStep, heldOpening, heldClaims};
+ghost use Rattle.bench.specs.Runs.{runOf};
 ghost use Rattle.walk_table.specs.Lent.{held};
 
 mod steps; // steps.rt: the bench's steps by value, as the entries call them
@@ -67,11 +65,10 @@ pub extern "C" fn prs_run(
     answers: &mut [u8],
 ) -> usize
     ensures { λ r.
-        ⌜ (r ≡ taken (now (list .entry)) (now (answers .entry)))
-        × (now (table .exit) ≡ heldRun (held (now (table .entry)) (now (desk .entry))) (pieces (taken (now (list .entry)) (now (answers .entry))) (now (list .entry))) .table)
-        × (now (desk .exit) ≡ heldRun (held (now (table .entry)) (now (desk .entry))) (pieces (taken (now (list .entry)) (now (answers .entry))) (now (list .entry))) .desk)
-        × (now (answers .exit) ≡ heldAnswers (held (now (table .entry)) (now (desk .entry))) (pieces (taken (now (list .entry)) (now (answers .entry))) (now (list .entry)))
-        ++ drop (taken (now (list .entry)) (now (answers .entry))) (now (answers .entry))) ⌝ }
+        ⌜ (r ≡ runOf (held (now (table .entry)) (now (desk .entry))) (now (list .entry)) (now (answers .entry)) .taken)
+        × (now (table .exit) ≡ runOf (held (now (table .entry)) (now (desk .entry))) (now (list .entry)) (now (answers .entry)) .held .table)
+        × (now (desk .exit) ≡ runOf (held (now (table .entry)) (now (desk .entry))) (now (list .entry)) (now (answers .entry)) .held .desk)
+        × (now (answers .exit) ≡ runOf (held (now (table .entry)) (now (desk .entry))) (now (list .entry)) (now (answers .entry)) .answers) ⌝ }
 {
     let by = ran(copied(table), *desk, list, answers);
     stored(table, desk, kept(by));

@@ -9,10 +9,8 @@ use desk::Held;
 use opens::opening;
 use purse::Purse;
 ghost use mathlib.Core.Path.{_≡_};
-ghost use mathlib.Core.List.{_++_};
-ghost use lib.ListN.{drop};
-ghost use Rattle.rules.specs.Laid.{heldOpening, heldClaims, heldRun, heldAnswers};
-ghost use Rattle.bench.specs.Runs.{pieces, taken};
+ghost use Rattle.rules.specs.Laid.{heldOpening, heldClaims};
+ghost use Rattle.bench.specs.Runs.{runOf};
 ghost use Rattle.walk_table.specs.Lent.{held};
 
 pub(crate) fn opened(table: [Purse; 32], desk: Desk, balances: &[u32]) -> Answered
@@ -36,9 +34,9 @@ pub(crate) fn owed(table: [Purse; 32], desk: Desk) -> Figure
 }
 
 pub(crate) fn ran(table: [Purse; 32], desk: Desk, list: &[u8], answers: &mut [u8]) -> Ran
-    ensures { λ r. ⌜ (r .taken ≡ taken (now (list .entry)) (now (answers .entry)))
-        × (r .held ≡ heldRun (held table desk) (pieces (taken (now (list .entry)) (now (answers .entry))) (now (list .entry))))
-        × (now (answers .exit) ≡ heldAnswers (held table desk) (pieces (taken (now (list .entry)) (now (answers .entry))) (now (list .entry))) ++ drop (taken (now (list .entry)) (now (answers .entry))) (now (answers .entry))) ⌝ }
+    ensures { λ r. ⌜ (r .taken ≡ runOf (held table desk) (now (list .entry)) (now (answers .entry)) .taken)
+        × (r .held ≡ runOf (held table desk) (now (list .entry)) (now (answers .entry)) .held)
+        × (now (answers .exit) ≡ runOf (held table desk) (now (list .entry)) (now (answers .entry)) .answers) ⌝ }
 {
     let all = Held {
         table: table,

@@ -13,21 +13,22 @@ use borrow.Author.Tests.{ltb-true, ltb-false, lt-ltb, le-ltb}
 use Rattle.purse.specs.declared.Message.{Message}
 use Rattle.purse.specs.declared.Purse.{Purse}
 use Rattle.purse.specs.Details.{zeroMessage}
+use Rattle.purse.specs.Purse.{zeroPurse}
 use Rattle.purse.proofs.Bools.{which}
 use Rattle.refusals.specs.Heads.{headOf}
 use Rattle.turns.specs.declared.Turned.{Turned}
 use Rattle.card.specs.Act.{recordAfter}
 use Rattle.desk.specs.declared.Entry.{Entry}
 use Rattle.desk.specs.declared.Desk.{Desk}
+use Rattle.desk.specs.declared.Held.{Held}
 use Rattle.desk.specs.Desk.{zeroEntry, added, takenOut, stored}
 use Rattle.rules.specs.declared.Event.{Event}
 use Rattle.asks.specs.declared.Seen.{Seen}
 use Rattle.acts.specs.declared.Change.{Change}
 use Rattle.acts.specs.declared.Change.the-variants.{Nothing, Send, Lose, Store}
 use Rattle.asks.specs.declared.Asked.{Asked}
-use Rattle.acts.specs.declared.Acted.{Acted}
-use Rattle.asks.specs.Asks.{deliveredAt, seenAt, asked}
-use Rattle.acts.specs.Acts.{toldAt, changeOf, carriedOut, settled, actOn}
+use Rattle.asks.specs.Asks.{placeOf, deliveredAt, seenAt, asked}
+use Rattle.acts.specs.Acts.{Acted, toldAt, changeOf, carriedOut, settled, actOn, putBack, byRecord}
 use Rattle.deeds.specs.declared.Deed.{Deed}
 use Rattle.deeds.specs.Deeds.{within, seenWith, deskStays, doing, deedOf, deedBy, deedAt, deskAfter}
 
@@ -121,3 +122,8 @@ module _ (d : Desk) where
 pub deed-acts : (p : Purse) (d : Desk) (e : Event) → length (d .ether .places) ≡ 256 → actedBy d (deedAt p d e) ≡ actOn p d e
 unfolding deedAt
 deed-acts p d e long = rw (seen-lent d e long) (acts-so d p e)
+
+-- and so, its record put back beside the desk, at the whole bench
+pub deed-by-record : (h : Held) (e : Event) → length (h .desk .ether .places) ≡ 256 → putBack h (placeOf e) (actedBy (h .desk) (deedAt (getD (h .table) (placeOf e) zeroPurse) (h .desk) e)) ≡ byRecord h e
+unfolding byRecord
+deed-by-record h e long = ap (putBack h (placeOf e)) (deed-acts (getD (h .table) (placeOf e) zeroPurse) (h .desk) e long)

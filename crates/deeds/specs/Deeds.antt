@@ -1,4 +1,4 @@
--- What an event writes in a lent table and desk, place by place, so that nothing else is moved: its record, the place behind the messages
+-- What an event writes in a table and a desk, place by place, so that nothing else is moved: its record, the place behind the messages
 -- and the place behind the entries, with both counts; a loss moves the later messages down. What an event leaves as it was is written as
 -- it stood. That this is the bench's step is `deed-acts` in proofs/.
 use Prim.Native.Nat.{ℕ, _+_}

@@ -1,5 +1,5 @@
-// What an event writes in a lent table and desk, place by place, so that nothing else is moved: worked out by value from the record that it
-// names and the few places that it reads.
+// What an event writes in a table and a desk, place by place, so that nothing else is moved: worked out by value from the record that it
+// names and the few places that it reads. The single event, the run and the entry for C all write it.
 use acts::Change;
 use acts::change_of;
 use acts::tell;
@@ -44,7 +44,7 @@ pub fn place(event: &[u8]) -> usize
 }
 
 // The place n, or the last place where n is past all.
-fn within(n: usize) -> usize
+pub fn within(n: usize) -> usize
     ensures { λ r. ⌜ r ≡ within n ⌝ }
 {
     if n < 256 { n } else { 255 }
@@ -170,6 +170,25 @@ fn deed_of(p: Purse, s: Seen, last: Message, entry: Entry, asked: Asked, t: Turn
 }
 
 // What an event writes at its record p and behind the messages and the entries that stand, where `last` and `entry` stand now.
+pub fn deed_by(
+    p: Purse,
+    purses: u8,
+    messages: u16,
+    entries: u16,
+    m: Message,
+    last: Message,
+    entry: Entry,
+    event: Event,
+) -> Deed
+    ensures { λ r. ⌜ r ≡ deedBy p (seenWith purses messages entries m event) last entry event ⌝ }
+{
+    let s = seen(purses, messages, entries, m, event);
+    let asked = ask(s, event);
+    let t = tell(Head::of(p), asked);
+    deed_of(p, s, last, entry, asked, t)
+}
+
+// The same of an event's bytes.
 pub fn done_by(
     p: Purse,
     purses: u8,
@@ -182,11 +201,16 @@ pub fn done_by(
 ) -> Deed
     ensures { λ r. ⌜ r ≡ deedBy p (seenWith purses messages entries m (decoded (now (event .entry)))) last entry (decoded (now (event .entry))) ⌝ }
 {
-    let e = decode(event);
-    let s = seen(purses, messages, entries, m, e);
-    let asked = ask(s, e);
-    let t = tell(Head::of(p), asked);
-    deed_of(p, s, last, entry, asked, t)
+    deed_by(
+        p,
+        purses,
+        messages,
+        entries,
+        m,
+        last,
+        entry,
+        decode(event),
+    )
 }
 
 // The messages without the one at a place.

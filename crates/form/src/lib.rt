@@ -72,7 +72,7 @@ pub fn is_log_unused(log: [Details; 8]) -> bool
 
 // What the status asks: zero details of an idle purse, its own side and its money of a busy one.
 fn is_status_ok(h: Head, own: Name) -> bool
-    requires { ⌜ h .most ≡ ceiling (headed h) ⌝ }
+    requires { ⌜ h .most .0 ≡ ceiling (headed h) ⌝ }
     ensures { λ r. ⌜ r ≡ (idleOk (headed h) || busyOk own (headed h)) ⌝ }
 {
     let d = h.details;
@@ -84,7 +84,7 @@ fn is_status_ok(h: Head, own: Name) -> bool
         1 => running & ((d.amount.0 <= h.balance.0) & is_payer(d, own, next)),
         2 => {
             let after = h.balance.0 as u64 + d.amount.0 as u64;
-            running & ((after <= h.most as u64) & is_payee(d, own, next))
+            running & ((after <= h.most.0 as u64) & is_payee(d, own, next))
         }
         3 => running & is_payer(d, own, next),
         4..=255 => false,
@@ -93,10 +93,10 @@ fn is_status_ok(h: Head, own: Name) -> bool
 
 // The rules that read no log.
 fn is_head_ok(h: Head, own: Name) -> bool
-    requires { ⌜ h .most ≡ ceiling (headed h) ⌝ }
+    requires { ⌜ h .most .0 ≡ ceiling (headed h) ⌝ }
     ensures { λ r. ⌜ r ≡ headOk own (headed h) ⌝ }
 {
-    (h.balance.0 <= h.most)
+    (h.balance.0 <= h.most.0)
         & (1 <= h.next.0)
         & (h.logged <= Purse::LOG_PLACES)
         & is_status_ok(h, own)

@@ -2,13 +2,13 @@
 // left, and what is then held is written: a line gives the answer of reading, the answer and the length of writing, and 1 where the
 // bytes written are those read. Last, every byte of the last image is changed to each other value: a line for each byte says how many of the
 // 255 read without refusal, and how many gave 2, 16, 17 and 18.
+use bigendian::count_at;
 use desk::Desk;
 use desk::Held;
 use libc::STDIN_FILENO;
 use libc::STDOUT_FILENO;
 use purse::Purse;
-ghost use mathlib.Core.Path.{_≡_};
-ghost use Prim.Native.Nat.{_≤_, _<_};
+ghost use Prim.Native.Nat.{_≤_};
 ghost use lib.ListN.{length};
 
 // How many readings answered 0, 2, 16, 17 and 18.
@@ -137,12 +137,6 @@ fn each_changed(held: Held, bytes: &mut [u8]) {
     }
 }
 
-fn wide(x: u8) -> usize
-    ensures { λ r. ⌜ (r ≡ x) × (r < 256) ⌝ }
-{
-    x as usize
-}
-
 // Where the image ends whose length stands at a place; the place itself where no whole image follows.
 fn end_at(input: &[u8], at: usize) -> usize
     requires { ⌜ at ≤ length (now input) ⌝ }
@@ -152,7 +146,7 @@ fn end_at(input: &[u8], at: usize) -> usize
     if left < 2 {
         return at;
     }
-    let n = wide(input[at]) * 256 + wide(input[at + 1]);
+    let n = count_at(input, at) as usize;
     if left - 2 < n {
         return at;
     }

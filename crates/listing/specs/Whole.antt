@@ -20,9 +20,13 @@ openingBytes l = take (1 + balanceBytes (getD l 0 0)) l
 abbrev pub eventBytes : List ℕ → List ℕ
 eventBytes l = drop (1 + balanceBytes (getD l 0 0)) l
 
--- what opening makes of the balances; it ignores what the table held
+-- a bench before its opening, which ignores what it held
+abbrev pub unopened : Held
+unopened = record { table = replicate 32 zeroPurse; desk = openedDesk 0 }
+
+-- what opening makes of the balances
 abbrev pub openedBy : List ℕ → Answered
-openedBy l = heldOpening (record { table = replicate 32 zeroPurse; desk = openedDesk 0 }) (balancesIn l)
+openedBy l = heldOpening unopened (balancesIn l)
 
 -- event lines from event 1 on, purse lines, the last line
 abbrev pub benchLines : Held → List ℕ → List ℕ

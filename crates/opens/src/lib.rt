@@ -17,7 +17,8 @@ fn is_within(balance: u32) -> bool
     ensures { λ r. ⌜ r ≡ within balance ⌝ }
 {
     let p = Purse::opened(Amount(balance));
-    balance <= p.ceiling()
+    let most = p.ceiling();
+    balance <= most.0
 }
 
 // Whether every balance is within the ceiling of its purse.

@@ -141,18 +141,18 @@ impl Message {
 }
 
 impl Purse {
-    pub const MAX_BALANCE: u32 = 5_000_000;
+    pub const MAX_BALANCE: Amount = Amount(5_000_000);
 
-    pub const MAX_AMOUNT: u32 = 5_000_000;
+    pub const MAX_AMOUNT: Amount = Amount(5_000_000);
 
     pub const LOG_PLACES: u8 = 8;
 
     // Never used for a transfer.
-    pub const LAST_SEQ: u32 = 4_294_967_295;
+    pub const LAST_SEQ: Seq = Seq(4_294_967_295);
 
     // The most that this purse may hold: every test of the balance ceiling reads it here.
-    pub fn ceiling(self) -> u32
-        ensures { λ r. ⌜ r ≡ ceiling self ⌝ }
+    pub fn ceiling(self) -> Amount
+        ensures { λ r. ⌜ r .0 ≡ ceiling self ⌝ }
     {
         Purse::MAX_BALANCE
     }

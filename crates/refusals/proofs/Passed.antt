@@ -32,7 +32,7 @@ module _ (h : Head) (own : Name) where
 
   pub to-passed : (other : Name) (a : Amount) → toNumber h own other a ≡ 0 → (h .next .0 ≡ 4294967295 → ⊥)
   unfolding toNumber
-  to-passed other a e = start-passed other a ((ltb (h .most) (h .balance .0 + a .0) ⇒ 12) ∷ []) e
+  to-passed other a e = start-passed other a ((ltb (h .most .0) (h .balance .0 + a .0) ⇒ 12) ∷ []) e
 
   deliver-passed : (m : Message) → deliverNumber h own m ≡ 0 → fits h (m .kind) ≡ true
   unfolding deliverNumber
@@ -45,7 +45,7 @@ module _ (h : Head) (own : Name) where
   unfolding fits
   pay-passed m e k = leb-true _ _ (rw (eq-eqb (m .kind) 1 k) at (deliver-passed m e))
 
-  pub get-passed : (m : Message) → deliverNumber h own m ≡ 0 → m .kind ≡ 2 → h .balance .0 + h .details .amount .0 ≤ h .most
+  pub get-passed : (m : Message) → deliverNumber h own m ≡ 0 → m .kind ≡ 2 → h .balance .0 + h .details .amount .0 ≤ h .most .0
   unfolding fits
   get-passed m e k =
       leb-true _ _

@@ -11,5 +11,5 @@ headOf p =
       details = p .details;
       status = p .status;
       logged = p .logged;
-      most = ceiling p;
+      most = record { 0 = ceiling p };
     }

@@ -35,7 +35,7 @@ unfoldable pub fromNumber : Head → Name → Name → Amount → ℕ
 fromNumber h own other a = first (startTests h own other a ++ ((ltb (h .balance .0) (a .0) ⇒ 11) ∷ []))
 
 unfoldable pub toNumber : Head → Name → Name → Amount → ℕ
-toNumber h own other a = first (startTests h own other a ++ ((ltb (h .most) (h .balance .0 + a .0) ⇒ 12) ∷ []))
+toNumber h own other a = first (startTests h own other a ++ ((ltb (h .most .0) (h .balance .0 + a .0) ⇒ 12) ∷ []))
 
 -- "Request, in epr with equal details", "Value, in epv with equal details", "Acknowledge, in epa with equal details"
 unfoldable pub expected : Head → Message → Bool
@@ -48,7 +48,7 @@ expected h m =
 unfoldable pub fits : Head → ℕ → Bool
 fits h k =
     cond (eqb k request) (leb (h .details .amount .0) (h .balance .0))
-    (cond (eqb k value) (leb (h .balance .0 + h .details .amount .0) (h .most)) true)
+    (cond (eqb k value) (leb (h .balance .0 + h .details .amount .0) (h .most .0)) true)
 
 -- "Deliver: 2, 3, 4, 5, 13"
 unfoldable pub deliverNumber : Head → Name → Message → ℕ

@@ -11,13 +11,14 @@ impl Head {
         let balance = p.balance;
         let next = p.next;
         let details = p.details;
+        let most = p.ceiling();
         Head {
             balance: balance,
             next: next,
             details: details,
             status: p.status,
             logged: p.logged,
-            most: p.ceiling(),
+            most: most,
         }
     }
 }

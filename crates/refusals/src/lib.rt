@@ -14,5 +14,5 @@ pub struct Head {
     pub details: Details,
     pub status: u8,
     pub logged: u8,
-    pub most: u32,
+    pub most: Amount,
 }

@@ -14,7 +14,7 @@ ghost use Rattle.refusals.specs.Numbers.{startNumber, fromNumber, toNumb
 pub fn is_legal(a: Amount) -> bool
     ensures { λ r. ⌜ r ≡ legal a ⌝ }
 {
-    (1 <= a.0) & (a.0 <= Purse::MAX_AMOUNT)
+    (1 <= a.0) & (a.0 <= Purse::MAX_AMOUNT.0)
 }
 
 // The tests that both starts have.
@@ -25,7 +25,7 @@ fn start_number(h: Head, own: Name, other: Name, amount: Amount) -> u8
     let n = tested(n, (Name::LAST < other.0) | (other.0 == own.0), 6);
     let n = tested(n, !is_legal(amount), 7);
     let n = tested(n, !(h.status == 0), 8);
-    let n = tested(n, h.next.0 == Purse::LAST_SEQ, 9);
+    let n = tested(n, h.next.0 == Purse::LAST_SEQ.0, 9);
     tested(n, Purse::LOG_PLACES <= h.logged, 10)
 }
 
@@ -42,7 +42,7 @@ pub fn to_number(h: Head, own: Name, other: Name, amount: Amount) -> u8
     ensures { λ r. ⌜ r ≡ toNumber h own other amount ⌝ }
 {
     let n = start_number(h, own, other, amount);
-    let most = h.most as u64;
+    let most = h.most.0 as u64;
     let after = h.balance.0 as u64 + amount.0 as u64;
     tested(n, most < after, 12)
 }
@@ -70,7 +70,7 @@ fn fits(h: Head, kind: u8) -> bool
         1 => d.amount.0 <= h.balance.0,
         2 => {
             let after = h.balance.0 as u64 + d.amount.0 as u64;
-            after <= h.most as u64
+            after <= h.most.0 as u64
         }
         _ => true,
     }

@@ -8,8 +8,10 @@ use desk::Desk;
 use desk::Held;
 use purse::Purse;
 ghost use Prim.Native.Nat.{_≤_};
-ghost use lib.ListN.{length};
+ghost use lib.ListN.{length, take};
 ghost use mathlib.Core.Path.{_≡_};
+ghost use Rattle.rules.specs.Laid.{heldOpening};
+ghost use Rattle.listing.specs.Whole.{unopened};
 
 // What one call moved, whether another is due, and whether it failed.
 struct Moved {
@@ -128,7 +130,9 @@ fn write(to: i32, bytes: &[u8]) -> bool {
 }
 
 // A bench before its opening, which ignores what it held.
-fn nothing() -> Held {
+fn nothing() -> Held
+    ensures { λ r. ⌜ r ≡ unopened ⌝ }
+{
     let z = Purse::zero();
     let table = [z; 32];
     let desk = Desk::opened(0);
@@ -158,6 +162,7 @@ fn read_opening(from: i32, bytes: &mut [u8]) -> Filled
 // The bench that the balances open, or the number by which opening refuses.
 fn open(balances: [u32; 32], count: usize) -> Answered
     requires { ⌜ count ≤ 32 ⌝ }
+    ensures { λ r. ⌜ r ≡ heldOpening unopened (take count balances) ⌝ }
 {
     opens::opening(nothing(), &balances[..count])
 }

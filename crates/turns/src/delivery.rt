@@ -33,7 +33,7 @@ fn pay(h: Head) -> Turned
 
 // A value: the balance rises, and the acknowledge is sent.
 fn receive(h: Head) -> Turned
-    requires { ⌜ h .balance .0 + h .details .amount .0 ≤ h .most ⌝ }
+    requires { ⌜ h .balance .0 + h .details .amount .0 ≤ h .most .0 ⌝ }
     ensures { λ r. ⌜ r ≡ receivedAt h ⌝ }
 {
     let d = h.details;

@@ -1,5 +1,5 @@
 -- `bench_c::prs_event` meets its contract: a walk of its MIR, by hand. The desk is copied out for the test and its borrow shut again; the table is shared out to
--- `table_ok`, comes back, and is opened at one record, which is stepped and stored. The desk is given to `written_at` for good. By `deed-acts` and
+-- `table_ok`, comes back, and is opened at one record, which is stepped and stored. The desk is given to `written_at` for good. By `deed-by-record` and
 -- `step-by-record` what is left is the bench's step. Assumes nothing.
 use mathlib.Core.Path.{_≡_, refl, sym, ap, subst, _∙_}
 use mathlib.Core.Bool.{Bool, true, false, not}
@@ -46,13 +46,11 @@ use Rattle.desk.specs.declared.Desk.{Desk}
 use Rattle.desk.specs.declared.Answered.{Answered}
 use Rattle.rules.specs.Events.{decoded}
 use Rattle.rules.specs.Laid.{heldOk, heldStep}
-use Rattle.acts.specs.declared.Acted.{Acted}
 use Rattle.asks.specs.Asks.{placeOf}
-use Rattle.acts.specs.Acts.{actOn, putBack, byRecord}
-use Rattle.bench.proofs.ByRecord.{step-by-record, place-below}
+use Rattle.acts.proofs.ByRecord.{step-by-record, place-below}
 use Rattle.deeds.specs.declared.Deed.{Deed}
 use Rattle.deeds.specs.Deeds.{deedAt, deskAfter}
-use Rattle.deeds.proofs.Acts.{actedBy, deed-acts}
+use Rattle.deeds.proofs.Acts.{deed-by-record}
 use Rattle.walk_table.specs.Lent.{held}
 use Rattle.walk_steps.proofs.Lent.{gone, if-test, opens-ref, shuts-ref, says-last, OpenRef, opens-elem, shuts-elem, OpenAt, place-of, place-is, was-false, was-true, shares-slice, unshares-slice}
 use Rattle.walk_table.proofs.Structs.{pval, psize, dval}
@@ -91,10 +89,9 @@ refused l d es p = rw p
 
 stepped : (l : List Purse) (d : Desk) (es : List ℕ) (r : Deed) (e : Desk) → heldOk (held l d) ≡ true → length (d .ether .places) ≡ 256 → r ≡ deedAt (getD l (placeOf (decoded es)) zeroPurse) d (decoded es)
     → e ≡ deskAfter d (deedAt (getD l (placeOf (decoded es)) zeroPurse) d (decoded es)) → left (r .answer) (set l (placeOf (decoded es)) (r .purse)) e ≡ heldStep (held l d) es
-unfolding byRecord
 stepped l d es r e w long r-is e-is =
     (λ z. left (r-is z .answer) (set l (placeOf (decoded es)) (r-is z .purse)) (e-is z))
-    ∙ ap (λ (s : Acted). putBack (held l d) (placeOf (decoded es)) s) (deed-acts (getD l (placeOf (decoded es)) zeroPurse) d (decoded es) long) ∙ sym (step-by-record (held l d) es w)
+    ∙ deed-by-record (held l d) (decoded es) long ∙ sym (step-by-record (held l d) es w)
 
 product-fits : (i : ℕ) → i < 32 → i * psize < 2 ^ 64
 product-fits i l = omega arith

@@ -15,7 +15,7 @@ of-requires : tie.Need-of-requires
 of-requires c κs = search needs
 
 is-head-ok-requires : tie.Need-is-head-ok-requires
-is-head-ok-requires c κs = search needs
+is-head-ok-requires c κs = ap (λ (h : Head). h .most .0) (c .of .ensures)
 
 is-log-unused-requires : tie.Need-is-log-unused-requires
 is-log-unused-requires c κs = search needs

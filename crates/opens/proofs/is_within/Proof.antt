@@ -11,7 +11,7 @@ ceiling-requires : tie.Need-ceiling-requires
 ceiling-requires c κs = search needs
 
 returns : tie.Need-returns
-returns c = rw (c .ceiling .ensures)
+returns c = rw (c .before .ceiling .ensures)
 
 pub is-within-spec : {M : Type 1} → statement M
 is-within-spec = tie.close (tie.spec opened-requires ceiling-requires returns)

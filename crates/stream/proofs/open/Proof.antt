@@ -1,7 +1,10 @@
--- `stream::open` meets its contract. At most 32 balances are lent.
+-- `stream::open` meets its contract: at most 32 balances are lent, and opening ignores what was held.
 -- Assumes nothing.
-use mathlib.Core.Path.{sym}
+use mathlib.Core.Path.{sym, ap, _∙_}
+use lib.ListN.{take}
 use lib.Seq.{length-take-le}
+use Rattle.desk.specs.declared.Held.{Held}
+use Rattle.rules.specs.Laid.{heldOpening}
 use borrow.Author.Needs.{needs}
 use Rattle.stream.proofs.open.Statement.{statement}
 use Rattle.stream.proofs.open.Tie as tie
@@ -19,7 +22,9 @@ opening-requires : tie.Need-opening-requires
 opening-requires c κs = search needs
 
 returns : tie.Need-returns
-returns c = search needs
+returns c =
+    let args = c .before .before .before .args in
+    c .opening .ensures ∙ ap (λ (h : Held). heldOpening h (take (args .count) (args .t1))) (c .before .before .nothing .ensures)
 
 pub open-spec : {M : Type 1} → statement M
 open-spec =

@@ -10,14 +10,11 @@ use Rattle.asks.proofs.asking.deliver_number.Tie as tie
 tested-requires : tie.Need-tested-requires
 tested-requires c κs = search needs
 
-wide-requires : tie.Need-wide-requires
-wide-requires c κs = search needs
-
 tested-requires-2 : tie.Need-tested-requires-2
 tested-requires-2 c κs = search needs
 
 returns : tie.Need-returns
-returns c = let now = c .before .before .before .before .args in rw (c .tested2 .ensures, c .before .wide .ensures, c .before .before .tested .ensures) (walks (deliverTests (now .purses) (now .messages) (now .own) (now .place)) refl)
+returns c = let now = c .before .before .before .args in rw (c .tested2 .ensures, c .before .tested .ensures) (walks (deliverTests (now .purses) (now .messages) (now .own) (now .place)) refl)
 
 pub deliver-number-spec : {M : Type 1} → statement M
-deliver-number-spec = tie.close (tie.spec tested-requires wide-requires tested-requires-2 returns)
+deliver-number-spec = tie.close (tie.spec tested-requires tested-requires-2 returns)

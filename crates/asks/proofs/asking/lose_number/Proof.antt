@@ -7,14 +7,11 @@ use borrow.Author.Needs.{needs}
 use Rattle.asks.proofs.asking.lose_number.Statement.{statement}
 use Rattle.asks.proofs.asking.lose_number.Tie as tie
 
-wide-requires : tie.Need-wide-requires
-wide-requires c κs = search needs
-
 tested-requires : tie.Need-tested-requires
 tested-requires c κs = search needs
 
 returns : tie.Need-returns
-returns c = let now = c .before .before .args in rw (c .tested .ensures, c .before .wide .ensures) (walks (loseTests (now .messages) (now .place)) refl)
+returns c = let now = c .before .args in rw (c .tested .ensures) (walks (loseTests (now .messages) (now .place)) refl)
 
 pub lose-number-spec : {M : Type 1} → statement M
-lose-number-spec = tie.close (tie.spec wide-requires tested-requires returns)
+lose-number-spec = tie.close (tie.spec tested-requires returns)

@@ -19,17 +19,17 @@ returns-2 : tie.Need-returns-2
 unfolding decoded
 returns-2 c = simp (eq-eqb _ 12 (c .before .before .if1 .left), ne-eqb _ 0 (c .if2 .taken))
 
-number-at-requires : tie.Need-number-at-requires
-number-at-requires c κs = search needs
-
-number-at-requires-2 : tie.Need-number-at-requires-2
-number-at-requires-2 c κs = search needs
-
 shared-slice-read-fields : tie.Need-shared-slice-read-fields
 shared-slice-read-fields c = search needs
 
 shared-slice-read-fields-2 : tie.Need-shared-slice-read-fields-2
 shared-slice-read-fields-2 c = search needs
+
+number-at-requires : tie.Need-number-at-requires
+number-at-requires c κs = search needs
+
+number-at-requires-2 : tie.Need-number-at-requires-2
+number-at-requires-2 c κs = search needs
 
 shared-slice-read-fields-3 : tie.Need-shared-slice-read-fields-3
 shared-slice-read-fields-3 c = search needs
@@ -54,10 +54,10 @@ decode-spec =
     returns
     shared-slice-read-if2
     returns-2
-    number-at-requires
-    number-at-requires-2
     shared-slice-read-fields
     shared-slice-read-fields-2
+    number-at-requires
+    number-at-requires-2
     shared-slice-read-fields-3
     fields-requires
     returns-3)

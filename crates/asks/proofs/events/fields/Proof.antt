@@ -11,28 +11,28 @@ returns-2 : tie.Need-returns-2
 returns-2 c = simp (c .match .keys2)
 
 returns-3 : tie.Need-returns-3
-returns-3 c = simp (c .before .match .keys3, c .if1 .taken)
+returns-3 c = simp (c .before .before .before .match .keys3, c .if1 .taken)
 
 returns-4 : tie.Need-returns-4
-returns-4 c = simp (c .before .match .keys3, c .if1 .left)
+returns-4 c = simp (c .before .before .before .match .keys3, c .if1 .left)
 
 returns-5 : tie.Need-returns-5
-returns-5 c = simp (c .before .match .keys4, c .if2 .taken)
+returns-5 c = simp (c .before .before .before .match .keys4, c .if2 .taken)
 
 returns-6 : tie.Need-returns-6
-returns-6 c = simp (c .before .match .keys4, c .if2 .left)
+returns-6 c = simp (c .before .before .before .match .keys4, c .if2 .left)
 
 returns-7 : tie.Need-returns-7
-returns-7 c = simp (c .before .match .keys5, c .if3 .taken)
+returns-7 c = simp (c .before .before .before .before .match .keys5, c .if3 .taken)
 
 returns-8 : tie.Need-returns-8
-returns-8 c = simp (c .before .match .keys5, c .if3 .left)
+returns-8 c = simp (c .before .before .before .before .match .keys5, c .if3 .left)
 
 returns-9 : tie.Need-returns-9
-returns-9 c = simp (c .before .match .keys6, c .if4 .taken)
+returns-9 c = simp (c .before .before .before .match .keys6, c .if4 .taken)
 
 returns-10 : tie.Need-returns-10
-returns-10 c = simp (c .before .match .keys6, c .if4 .left)
+returns-10 c = simp (c .before .before .before .match .keys6, c .if4 .left)
 
 returns-11 : tie.Need-returns-11
 returns-11 c = simp (c .match .keys7)

@@ -27,9 +27,9 @@ tested-requires-6 c κs = search needs
 
 returns : tie.Need-returns
 returns c =
-    let start = c .before .before .before .before .before .before .before .before .before .before .before .before .before .before in
-    start-walk (start .args .h) (start .args .own) (start .args .other) (start .args .amount) (c .before .before .before .before .before .before .before .is-legal .ensures) (c .before .before .before .before .before .before .before .before .before .before .before .before .tested .ensures) (c .before .before .before .before .before .before .before .before .tested2 .ensures)
-    (c .before .before .before .before .before .before .tested3 .ensures) (c .before .before .before .before .tested4 .ensures) (c .before .before .tested5 .ensures) (c .tested6 .ensures)
+    let start = c .before .before .before .before .before .before .before .before .before .before .before .before .before .before .before in
+    start-walk (start .args .h) (start .args .own) (start .args .other) (start .args .amount) (c .before .before .before .before .before .before .before .before .is-legal .ensures) (c .before .before .before .before .before .before .before .before .before .before .before .before .before .tested .ensures) (c .before .before .before .before .before .before .before .before .before .tested2 .ensures)
+    (c .before .before .before .before .before .before .before .tested3 .ensures) (c .before .before .before .before .before .tested4 .ensures) (c .before .before .tested5 .ensures) (c .tested6 .ensures)
 
 pub start-number-spec : {M : Type 1} → statement M
 start-number-spec =

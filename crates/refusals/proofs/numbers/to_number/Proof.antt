@@ -34,7 +34,7 @@ returns c =
     let amount = start .args .amount in
     more
     (startTests h (start .args .own) (start .args .other) amount)
-    (ltb (h .most) (h .balance .0 + amount .0)) 12
+    (ltb (h .most .0) (h .balance .0 + amount .0)) 12
     refl (c .before .before .before .before .start-number .ensures) (c .tested .ensures)
 
 pub to-number-spec : {M : Type 1} → statement M
