@@ -1,28 +1,18 @@
--- Each public function's contract leaves one result, and a run's one content of the answers: two that both meet it are equal, by the one
--- law of the purse's Unique. Assumes nothing.
+-- An event leaves one result, and a run one result and one content of the answers: two that both meet the contract are equal, by the law of
+-- one equation. Assumes nothing.
 use Prim.Native.Nat.{ℕ}
 use mathlib.Core.Path.{_≡_}
 use mathlib.Core.List.{List, _++_}
 use lib.ListN.{drop}
-use Rattle.purse.specs.declared.Purse.{Purse}
 use Rattle.purse.proofs.Unique.{one}
-use Rattle.desk.specs.declared.Desk.{Desk}
 use Rattle.desk.specs.declared.Held.{Held}
 use Rattle.desk.specs.declared.Answered.{Answered}
-use Rattle.rules.specs.declared.Event.{Event}
-use Rattle.rules.specs.Events.{decoded}
-use Rattle.rules.specs.Laid.{heldStep, heldRun, heldAnswers, heldOpening}
-use Rattle.acts.specs.declared.Acted.{Acted}
+use Rattle.rules.specs.Laid.{heldStep, heldRun, heldAnswers}
 use Rattle.bench.specs.declared.Ran.{Ran}
-use Rattle.asks.specs.Asks.{placeOf}
-use Rattle.acts.specs.Acts.{actOn, byRecord}
 use Rattle.bench.specs.Runs.{pieces, taken}
 
-pub by-record-one : (h : Held) (l : List ℕ) (r s : Answered) → r ≡ byRecord h (decoded l) → s ≡ byRecord h (decoded l) → r ≡ s
-by-record-one h l r s e f = one e f
-
-pub event-one : (h : Held) (l : List ℕ) (r s : Answered) → r ≡ heldStep h l → s ≡ heldStep h l → r ≡ s
-event-one h l r s e f = one e f
+pub event-one : (held : Held) (event : List ℕ) (r s : Answered) → r ≡ heldStep held event → s ≡ heldStep held event → r ≡ s
+event-one held event r s = one
 
 -- what a run promises of its result and of the answers as it leaves them
 abbrev RunSays : Held → List ℕ → List ℕ → Ran → List ℕ → Type 0
