@@ -1,4 +1,4 @@
--- Each public function's contract leaves one result: two that both meet it are equal, by the one law of the purse's Unique. Assumes nothing.
+-- `decode` and `place_of` leave one result: two that both meet the contract, written out here, are equal, by the law of one equation. Assumes nothing.
 use Prim.Native.Nat.{ℕ}
 use mathlib.Core.Path.{_≡_}
 use mathlib.Core.List.{List}
@@ -7,8 +7,8 @@ use Rattle.rules.specs.declared.Event.{Event}
 use Rattle.rules.specs.Events.{decoded}
 use Rattle.asks.specs.Asks.{placeOf}
 
-pub decode-one : (l : List ℕ) (r s : Event) → r ≡ decoded l → s ≡ decoded l → r ≡ s
-decode-one l r s e f = one e f
+pub decode-one : (event : List ℕ) (r s : Event) → r ≡ decoded event → s ≡ decoded event → r ≡ s
+decode-one event r s = one
 
-pub place-of-one : (v : Event) (r s : ℕ) → r ≡ placeOf v → s ≡ placeOf v → r ≡ s
-place-of-one v r s e f = one e f
+pub place-of-one : (event : Event) (r s : ℕ) → r ≡ placeOf event → s ≡ placeOf event → r ≡ s
+place-of-one event r s = one

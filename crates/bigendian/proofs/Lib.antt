@@ -3,4 +3,3 @@ pub mod Coded
 pub mod Numbers
 pub mod Puts
 pub mod Gets
-pub mod Unique

@@ -1,4 +1,4 @@
--- Opening leaves one result: two that both meet its contract are equal, by the one law of the purse's Unique. Assumes nothing.
+-- Opening leaves one result: two that both meet its contract, written out here, are equal, by the law of one equation. Assumes nothing.
 use Prim.Native.Nat.{ℕ}
 use mathlib.Core.Path.{_≡_}
 use mathlib.Core.List.{List}
@@ -7,5 +7,5 @@ use Rattle.desk.specs.declared.Held.{Held}
 use Rattle.desk.specs.declared.Answered.{Answered}
 use Rattle.rules.specs.Laid.{heldOpening}
 
-pub opening-one : (h : Held) (bs : List ℕ) (r s : Answered) → r ≡ heldOpening h bs → s ≡ heldOpening h bs → r ≡ s
-opening-one h bs r s e f = one e f
+pub opening-one : (held : Held) (balances : List ℕ) (r s : Answered) → r ≡ heldOpening held balances → s ≡ heldOpening held balances → r ≡ s
+opening-one held balances r s = one

@@ -1,5 +1,4 @@
--- "Two results that both satisfy it are proved equal": a contract that is an equation leaves one result.
--- Assumes nothing.
+-- Reading an image leaves one result: two that both meet its contract, written out here, are equal, by the law of one equation. Assumes nothing.
 use Prim.Native.Nat.{ℕ}
 use mathlib.Core.Path.{_≡_}
 use mathlib.Core.List.{List}
@@ -8,5 +7,5 @@ use Rattle.desk.specs.declared.Held.{Held}
 use Rattle.desk.specs.declared.Answered.{Answered}
 use Rattle.layout.specs.Calls.{heldRead}
 
-pub read-one : (h : Held) (l : List ℕ) (r s : Answered) → r ≡ heldRead h l → s ≡ heldRead h l → r ≡ s
-read-one h l r s p q = one p q
+pub read-one : (held : Held) (bytes : List ℕ) (r s : Answered) → r ≡ heldRead held bytes → s ≡ heldRead held bytes → r ≡ s
+read-one held bytes r s = one

@@ -1,16 +1,17 @@
--- `written_at` leaves one result and one content of the lent desk: two that both meet its contract are equal, by the one law of the purse's
--- Unique. Assumes nothing.
+-- `written_at` leaves one result and one content of the lent desk: two that both meet its contract, written out here, are equal, by the law of
+-- two equations. Assumes nothing.
+use Prim.Native.Nat.{ℕ}
 use mathlib.Core.Path.{_≡_}
+use mathlib.Core.List.{List}
 use Rattle.purse.specs.declared.Purse.{Purse}
-use Rattle.purse.proofs.Unique.{one}
+use Rattle.purse.proofs.Unique.{two}
 use Rattle.desk.specs.declared.Desk.{Desk}
-use Rattle.rules.specs.declared.Event.{Event}
+use Rattle.rules.specs.Events.{decoded}
 use Rattle.deeds.specs.declared.Deed.{Deed}
 use Rattle.deeds.specs.Deeds.{deedAt, deskAfter}
 
--- what it promises of its result r and of the desk d as it leaves it
-abbrev Says : Purse → Desk → Event → Deed → Desk → Type 0
-Says p c event r d = (r ≡ deedAt p c event) × (d ≡ deskAfter c (deedAt p c event))
-
-pub written-at-one : (p : Purse) (c : Desk) (event : Event) (r s : Deed) (d e : Desk) → Says p c event r d → Says p c event s e → (r ≡ s) × (d ≡ e)
-written-at-one p c event r s d e f g = (one (f .0) (g .0), one (f .1) (g .1))
+pub written-at-one : (desk : Desk) (p : Purse) (event : List ℕ) (r s : Deed) (d e : Desk)
+    → (r ≡ deedAt p desk (decoded event)) × (d ≡ deskAfter desk (deedAt p desk (decoded event)))
+    → (s ≡ deedAt p desk (decoded event)) × (e ≡ deskAfter desk (deedAt p desk (decoded event)))
+    → (r ≡ s) × (d ≡ e)
+written-at-one desk p event r s d e = two
