@@ -123,11 +123,14 @@ def equation(fact):
 
 
 def fields(struct):
-    """The names of a struct's fields."""
+    """The names of a struct's fields, or their numbers where they have none."""
     for path in sorted(CRATES.glob("*/src/*.rt")):
-        found = re.search(rf"^pub struct {re.escape(struct)} \{{(.*?)^\}}", path.read_text(), re.S | re.M)
-        if found:
-            return re.findall(r"^ *(?:pub )?(\w+):", found[1], re.M)
+        named = re.search(rf"^pub struct {re.escape(struct)} \{{(.*?)^\}}", path.read_text(), re.S | re.M)
+        if named:
+            return re.findall(r"^ *(?:pub )?(\w+):", named[1], re.M)
+        numbered = re.search(rf"^pub struct {re.escape(struct)}\((.*)\);", path.read_text(), re.M)
+        if numbered:
+            return [str(place) for place in range(len(numbered[1].split(",")))]
     return []
 
 

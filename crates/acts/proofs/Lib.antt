@@ -1,1 +1,2 @@
 pub mod ByRecord
+pub mod Told

@@ -4,8 +4,9 @@ use Prim.Native.Nat.{ℕ}
 use mathlib.Core.Bool.{Bool, cond}
 use mathlib.Core.List.{List, [], _∷_}
 use lib.ListN.{getD}
-use lib.Dec.{leb, eqb}
+use lib.Dec.{ltb, leb, eqb}
 use Rattle.purse.specs.declared.Name.{Name}
+use Rattle.purse.specs.declared.Message.{Message}
 use Rattle.purse.specs.declared.CardEvent.{CardEvent}
 use Rattle.purse.specs.declared.CardEvent.the-variants as card
 use Rattle.purse.specs.Tests.{Test, _⇒_, first}
@@ -42,7 +43,21 @@ deliveredAt (Abort own) = places
 deliveredAt (Lose i) = places
 deliveredAt (Collect own) = places
 
--- what an event's tests read of the desk
+-- the place n, or the last place where n is past all
+unfoldable pub within : ℕ → ℕ
+within n = cond (ltb n places) n 255
+
+-- what an event's tests read of the desk: m stands at the place within which it delivers
+unfoldable pub seenWith : ℕ → ℕ → ℕ → Message → Event → Seen
+seenWith purses messages entries m e =
+    record {
+      purses = purses;
+      messages = messages;
+      entries = entries;
+      message = cond (ltb (deliveredAt e) places) m zeroMessage;
+    }
+
+-- the same, said of the whole desk (`seen-lent`)
 abbrev pub seenAt : Desk → ℕ → Seen
 seenAt d i =
     record {

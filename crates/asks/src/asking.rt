@@ -1,4 +1,4 @@
-// What an event asks for: the record that it names, the message that it delivers, and the tests that read the desk, in document 01's order.
+// What an event asks for: the tests that read the desk, in document 01's order.
 use crate::Asked;
 use crate::Seen;
 use purse::CardEvent;
@@ -7,65 +7,7 @@ use purse::tested;
 use rules::Event;
 ghost use mathlib.Core.Path.{_≡_};
 ghost use Rattle.purse.specs.Tests.{first};
-ghost use Rattle.asks.specs.Asks.{placeIn, placeOf, deliveredAt, startTests, deliverTests, purseTests, loseTests, toTell, toCollect, toLose, asked};
-
-// The place of a name in the table of 32; 0 for a name above 31.
-fn place_in(name: Name) -> usize
-    ensures { λ r. ⌜ r ≡ placeIn name ⌝ }
-{
-    let n = name.0;
-    if n <= Name::LAST { n as usize } else { 0 }
-}
-
-// The record that an event names; 0 where it names none.
-pub fn place_of(event: Event) -> usize
-    ensures { λ r. ⌜ r ≡ placeOf event ⌝ }
-{
-    match event {
-        Event::Malformed => 0,
-        Event::StartFrom {
-            purse,
-            other: _,
-            seq: _,
-            amount: _,
-        } => place_in(purse),
-        Event::StartTo {
-            purse,
-            other: _,
-            seq: _,
-            amount: _,
-        } => place_in(purse),
-        Event::Deliver { purse, place: _ } => place_in(purse),
-        Event::Abort { purse } => place_in(purse),
-        Event::Lose { place: _ } => 0,
-        Event::Collect { purse } => place_in(purse),
-    }
-}
-
-// The place of the message that an event delivers; past the last place where it delivers none.
-pub fn delivered_at(event: Event) -> usize
-    ensures { λ r. ⌜ r ≡ deliveredAt event ⌝ }
-{
-    match event {
-        Event::Malformed => 256,
-        Event::StartFrom {
-            purse: _,
-            other: _,
-            seq: _,
-            amount: _,
-        } => 256,
-        Event::StartTo {
-            purse: _,
-            other: _,
-            seq: _,
-            amount: _,
-        } => 256,
-        Event::Deliver { purse: _, place } => place as usize,
-        Event::Abort { purse: _ } => 256,
-        Event::Lose { place: _ } => 256,
-        Event::Collect { purse: _ } => 256,
-    }
-}
+ghost use Rattle.asks.specs.Asks.{startTests, deliverTests, purseTests, loseTests, toTell, toCollect, toLose, asked};
 
 fn start_number(purses: u8, own: Name, other: Name) -> u8
     ensures { λ r. ⌜ r ≡ first (startTests purses own other) ⌝ }

@@ -5,11 +5,14 @@ use purse::Name;
 
 mod asking; // asking.rt: the tests that read the desk
 mod events; // events.rt: an event's bytes read
+mod looking; // looking.rt: the record that an event means, and what is seen of the desk
 
 pub use asking::ask;
-pub use asking::delivered_at;
-pub use asking::place_of;
 pub use events::decode;
+pub use looking::delivered_at;
+pub use looking::look;
+pub use looking::place_of;
+pub use looking::within;
 
 // What an event's tests read of the desk: its counts, and the message that is delivered, or an all-zero one.
 pub struct Seen {

@@ -1,14 +1,18 @@
 // Many events: the rules are tested once, since every step keeps them.
 use crate::Ran;
+use acts::Change;
+use acts::change_of;
+use acts::tell;
+use asks::ask;
 use asks::decode;
 use asks::delivered_at;
+use asks::look;
 use asks::place_of;
-use deeds::behind;
-use deeds::deed_by;
-use deeds::lost;
-use deeds::within;
+use asks::within;
 use desk::Desk;
 use desk::Held;
+use purse::tested;
+use refusals::Head;
 ghost use mathlib.Core.Path.{_≡_};
 ghost use mathlib.Core.Bool.{true};
 ghost use mathlib.Core.List.{_++_};
@@ -23,8 +27,8 @@ fn smaller(a: usize, b: usize) -> usize
     if a <= b { a } else { b }
 }
 
-// The first n events, at a table that is well formed. Each is looked up (its record, the message that it delivers, the places behind the
-// messages and the entries), its deed chosen, and the deed written.
+// The first n events, at a table that is well formed; the single event too is taken here. Each is looked up (its record, and what is seen of
+// the desk), what it asks for is told to the card, and what that changes is carried out.
 pub(crate) fn each(held: Held, input: &[u8], answers: &mut [u8], n: usize) -> Held
     requires { ⌜ (heldOk held ≡ true) × (12 * n ≤ length (now input)) × (n ≤ length (now answers)) ⌝ }
     ensures { λ r. ⌜ (r ≡ heldRun held (pieces n (now (input .entry)))) × (now (answers .exit) ≡ heldAnswers held (pieces n (now (input .entry))) ++ drop n (now (answers .entry))) ⌝ }
@@ -38,31 +42,43 @@ pub(crate) fn each(held: Held, input: &[u8], answers: &mut [u8], n: usize) -> He
     while i < n {
         let at = 12 * i;
         let end = at + 12;
-        let event = decode(&input[at..end]);
-        let k = place_of(event);
-        let from = within(delivered_at(event));
-        let messages = ether.count;
-        let last = behind(messages);
-        let entries = archive.count;
-        let stop = behind(entries);
+        let e = decode(&input[at..end]);
+        let k = place_of(e);
         let p = table[k];
-        let m = ether.places[from];
-        let l = ether.places[last];
-        let x = archive.places[stop];
-        let d = deed_by(p, purses, messages, entries, m, l, x, event);
-        let q = d.purse;
-        table[k] = q;
-        let sent = d.message;
-        ether.places[last] = sent;
-        ether.count = d.messages;
-        let kept = d.entry;
-        archive.places[stop] = kept;
-        archive.count = d.entries;
-        if d.loses {
-            let next = lost(ether, d.place);
-            ether = next;
+        let j = within(delivered_at(e));
+        let m = ether.places[j];
+        let seen = look(purses, ether.count, archive.count, m, e);
+        let asked = ask(seen, e);
+        let t = tell(Head::of(p), asked);
+        let mut answer = t.answer;
+        // from 2 up nothing changes
+        if answer == 0 {
+            let head = t.head;
+            let log = t.log;
+            let m = t.message;
+            let change = change_of(p, asked, m);
+            let q = card::record(p, head, log);
+            table[k] = q;
+            match change {
+                Change::Nothing => {}
+                Change::Send(m) => {
+                    let changed = ether.add(m);
+                    let next = changed.ether;
+                    ether = next;
+                    answer = tested(0, changed.lost, 1);
+                }
+                Change::Lose(place) => {
+                    let changed = ether.take_out(place as usize);
+                    let next = changed.ether;
+                    ether = next;
+                }
+                Change::Store(entry) => {
+                    let next = archive.store(entry);
+                    archive = next;
+                }
+            }
         }
-        answers[i] = d.answer;
+        answers[i] = answer;
         i += 1;
     }
     let desk = Desk {

@@ -27,28 +27,11 @@ use Rattle.asks.specs.declared.Seen.{Seen}
 use Rattle.acts.specs.declared.Change.{Change}
 use Rattle.acts.specs.declared.Change.the-variants.{Nothing, Send, Lose, Store}
 use Rattle.asks.specs.declared.Asked.{Asked}
-use Rattle.asks.specs.Asks.{placeOf, deliveredAt, seenAt, asked}
+use Rattle.asks.specs.Asks.{placeOf, deliveredAt, within, seenAt, asked}
+use Rattle.asks.proofs.Looks.{within-is, seen-lent}
 use Rattle.acts.specs.Acts.{Acted, toldAt, changeOf, carriedOut, settled, actOn, putBack, byRecord}
 use Rattle.deeds.specs.declared.Deed.{Deed}
-use Rattle.deeds.specs.Deeds.{within, seenWith, deskStays, doing, deedOf, deedBy, deedAt, deskAfter}
-
-pub within-less : (n : ℕ) → within n < 256
-unfolding within
-within-less n = elim (which (ltb n 256)) [ inl p ↦ rw p (ltb-true n 256 p) | inr p ↦ rw p (omega arith) ]
-
-within-is : (n : ℕ) → ltb n 256 ≡ true → within n ≡ n
-unfolding within
-within-is n p = rw p
-
--- what stands at the place within which an event delivers is what its tests read
-seen-lent : (d : Desk) (e : Event) → length (d .ether .places) ≡ 256
-    → seenWith (d .purses) (d .ether .count) (d .archive .count) (getD (d .ether .places) (within (deliveredAt e)) zeroMessage) e ≡ seenAt d (deliveredAt e)
-unfolding within seenWith
-seen-lent d e long =
-    elim (which (ltb (deliveredAt e) 256)) [
-      | inl p ↦ rw p
-      | inr p ↦ rw (p, List·getD-eq-default (d .ether .places) zeroMessage {n = deliveredAt e} (omega (arith, long, ltb-false (deliveredAt e) 256 p)))
-    ]
+use Rattle.deeds.specs.Deeds.{deskStays, doing, deedOf, deedBy, deedAt, deskAfter}
 
 -- the record and the desk that a deed leaves
 abbrev pub actedBy : Desk → Deed → Acted

@@ -1,4 +1,4 @@
--- What an event writes in a table and a desk, place by place, so that nothing else is moved: its record, the place behind the messages
+-- What an event writes in a lent table and desk, place by place, so that nothing else is moved: its record, the place behind the messages
 -- and the place behind the entries, with both counts; a loss moves the later messages down. What an event leaves as it was is written as
 -- it stood. That this is the bench's step is `deed-acts` in proofs/.
 use Prim.Native.Nat.{ℕ, _+_}
@@ -20,23 +20,9 @@ use Rattle.asks.specs.declared.Seen.{Seen}
 use Rattle.asks.specs.declared.Asked.{Asked}
 use Rattle.acts.specs.declared.Change.{Change}
 use Rattle.acts.specs.declared.Change.the-variants.{Nothing, Send, Lose, Store}
-use Rattle.asks.specs.Asks.{deliveredAt, asked}
+use Rattle.asks.specs.Asks.{deliveredAt, within, seenWith, asked}
 use Rattle.acts.specs.Acts.{toldAt, changeOf, withEther}
 use Rattle.deeds.specs.declared.Deed.{Deed}
-
--- the place n, or the last place where n is past all
-unfoldable pub within : ℕ → ℕ
-within n = cond (ltb n places) n 255
-
--- what an event's tests read: m stands at the place within which it delivers
-unfoldable pub seenWith : ℕ → ℕ → ℕ → Message → Event → Seen
-seenWith purses messages entries m e =
-    record {
-      purses = purses;
-      messages = messages;
-      entries = entries;
-      message = cond (ltb (deliveredAt e) places) m zeroMessage;
-    }
 
 -- the record is q, and the desk stays
 unfoldable pub deskStays : ℕ → Purse → Seen → Message → Entry → Deed

@@ -1,5 +1,5 @@
-// What an event writes in a table and a desk, place by place, so that nothing else is moved: worked out by value from the record that it
-// names and the few places that it reads. The single event, the run and the entry for C all write it.
+// What an event writes in a lent table and desk, place by place, so that nothing else is moved: worked out by value from the record that it
+// names and the few places that it reads.
 use acts::Change;
 use acts::change_of;
 use acts::tell;
@@ -8,20 +8,21 @@ use asks::Seen;
 use asks::ask;
 use asks::decode;
 use asks::delivered_at;
+use asks::look;
 use asks::place_of;
+use asks::within;
 use card::record;
 use desk::Entry;
 use desk::Ether;
 use purse::Message;
 use purse::Purse;
 use refusals::Head;
-use rules::Event;
 use turns::Turned;
 ghost use mathlib.Core.Path.{_≡_};
 ghost use Rattle.rules.specs.Events.{decoded};
 ghost use Rattle.desk.specs.Desk.{takenOut};
-ghost use Rattle.asks.specs.Asks.{placeOf, deliveredAt};
-ghost use Rattle.deeds.specs.Deeds.{within, seenWith, deskStays, doing, deedOf, deedBy};
+ghost use Rattle.asks.specs.Asks.{placeOf, deliveredAt, within, seenWith};
+ghost use Rattle.deeds.specs.Deeds.{deskStays, doing, deedOf, deedBy};
 
 // What an event writes: the answer, its record's next state, what then stands behind the messages and behind the entries with their
 // counts, and the place of a message that is lost.
@@ -43,13 +44,6 @@ pub fn place(event: &[u8]) -> usize
     place_of(decode(event))
 }
 
-// The place n, or the last place where n is past all.
-pub fn within(n: usize) -> usize
-    ensures { λ r. ⌜ r ≡ within n ⌝ }
-{
-    if n < 256 { n } else { 255 }
-}
-
 // The place of the message that an event delivers; the last place where it delivers none.
 pub fn delivered(event: &[u8]) -> usize
     ensures { λ r. ⌜ r ≡ within (deliveredAt (decoded (now (event .entry)))) ⌝ }
@@ -62,27 +56,6 @@ pub fn behind(count: u16) -> usize
     ensures { λ r. ⌜ r ≡ within count ⌝ }
 {
     within(count as usize)
-}
-
-// What an event's tests read of the desk: m is the message at the place that `delivered` gives.
-fn seen(purses: u8, messages: u16, entries: u16, m: Message, event: Event) -> Seen
-    ensures { λ r. ⌜ r ≡ seenWith purses messages entries m event ⌝ }
-{
-    if delivered_at(event) < 256 {
-        Seen {
-            purses: purses,
-            messages: messages,
-            entries: entries,
-            message: m,
-        }
-    } else {
-        Seen {
-            purses: purses,
-            messages: messages,
-            entries: entries,
-            message: Message::zero(),
-        }
-    }
 }
 
 // The record q is written, and the desk stays.
@@ -170,25 +143,6 @@ fn deed_of(p: Purse, s: Seen, last: Message, entry: Entry, asked: Asked, t: Turn
 }
 
 // What an event writes at its record p and behind the messages and the entries that stand, where `last` and `entry` stand now.
-pub fn deed_by(
-    p: Purse,
-    purses: u8,
-    messages: u16,
-    entries: u16,
-    m: Message,
-    last: Message,
-    entry: Entry,
-    event: Event,
-) -> Deed
-    ensures { λ r. ⌜ r ≡ deedBy p (seenWith purses messages entries m event) last entry event ⌝ }
-{
-    let s = seen(purses, messages, entries, m, event);
-    let asked = ask(s, event);
-    let t = tell(Head::of(p), asked);
-    deed_of(p, s, last, entry, asked, t)
-}
-
-// The same of an event's bytes.
 pub fn done_by(
     p: Purse,
     purses: u8,
@@ -201,16 +155,11 @@ pub fn done_by(
 ) -> Deed
     ensures { λ r. ⌜ r ≡ deedBy p (seenWith purses messages entries m (decoded (now (event .entry)))) last entry (decoded (now (event .entry))) ⌝ }
 {
-    deed_by(
-        p,
-        purses,
-        messages,
-        entries,
-        m,
-        last,
-        entry,
-        decode(event),
-    )
+    let e = decode(event);
+    let s = look(purses, messages, entries, m, e);
+    let asked = ask(s, e);
+    let t = tell(Head::of(p), asked);
+    deed_of(p, s, last, entry, asked, t)
 }
 
 // The messages without the one at a place.

@@ -15,6 +15,7 @@ use Rattle.purse.specs.Purse.{idle, epr, epv, epa, logPlaces, zeroPurse, idleOk
 use Rattle.desk.specs.declared.Entry.{Entry}
 use Rattle.desk.specs.declared.Held.{Held}
 use Rattle.desk.specs.Desk.{zeroEntry, sameEntry}
+use mathlib.Core.Bool.{true}
 use Rattle.rules.specs.Bench.{Bench, called}
 use Rattle.rules.specs.Table.{countsOk, inTable, purseOk, messageOk, archiveOk, onceOk, clearOk, tableOk}
 use Rattle.rules.specs.Events.{decoded}
@@ -117,9 +118,6 @@ sound =
     ∷ state (purse 300 epr (payment 1 1 300) (payment 2 2 5 ∷ []))
     ∷ state (purse 4999700 epv (between 1 1 0 1) [])
     ∷ state (purse 0 epa (payment 1 1 300) [])
-    ∷ bench (replicate 32 (openedAt 0)) [] []
-    ∷ ether (requests 256)
-    ∷ shelf (logged 256)
     ∷ state (purse 1000 idle zeroDetails eight)
     ∷ []
 
@@ -203,13 +201,12 @@ messages = replicate 256 zeroMessage
 abbrev entries : List Entry
 entries = replicate 256 zeroEntry
 
+-- as many purses, messages and entries as there are places
+abbrev pub full : Held
+full = lent (replicate 32 quiet) 32 (requests 256) 256 (logged 256) 256
+
 abbrev heldSound : List Held
-heldSound =
-    held table messages entries
-    ∷ lent (replicate 32 quiet) 32 messages 0 entries 0
-    ∷ lent table 2 (requests 256) 256 entries 0
-    ∷ lent table 2 messages 0 (logged 256) 256
-    ∷ []
+heldSound = held table messages entries ∷ full ∷ []
 
 abbrev heldBroken : List Held
 heldBroken =
@@ -218,9 +215,9 @@ heldBroken =
     ∷ held (quiet ∷ quiet ∷ openedAt 0 ∷ replicate 29 zeroPurse) messages entries
     ∷ held table (message 1 zeroDetails ∷ replicate 255 zeroMessage) entries
     ∷ held table messages (entry 1 zeroDetails ∷ replicate 255 zeroEntry)
-    ∷ lent (replicate 32 quiet) 33 messages 0 entries 0
-    ∷ lent table 2 (requests 256) 257 entries 0
-    ∷ lent table 2 messages 0 (logged 256) 257
+    ∷ lent (replicate 32 quiet) 33 (requests 256) 256 (logged 256) 256
+    ∷ lent (replicate 32 quiet) 32 (requests 256) 257 (logged 256) 256
+    ∷ lent (replicate 32 quiet) 32 (requests 256) 256 (logged 256) 257
     ∷ []
 
 abbrev answer : Bench → ℕ
@@ -234,6 +231,11 @@ pub record Felt : Type 0 where
   pub break : map answer broken ≡ replicate (length broken) 2
   pub held-obey : map heldAnswer heldSound ≡ replicate (length heldSound) 3
   pub held-break : map heldAnswer heldBroken ≡ replicate (length heldBroken) 2
+
+-- the largest bench obeys the rules
+pub full-obeys : heldOk full ≡ true
+unfolding sameDetails legal named asPayer asPayee entryOk absent idleOk busyOk placeOk logOk wellFormed sameMessage sameEntry countsOk inTable purseOk messageOk archiveOk onceOk clearOk tableOk isZeroPurse isZeroMessage isZeroEntry heldOk
+full-obeys = refl
 
 pub felt : Felt
 unfolding sameDetails legal named asPayer asPayee entryOk absent idleOk busyOk placeOk logOk wellFormed sameMessage sameEntry countsOk inTable purseOk messageOk archiveOk onceOk clearOk tableOk decoded numberAt acting step isZeroPurse isZeroMessage isZeroEntry heldOk heldStep

@@ -33,9 +33,9 @@ use Rattle.desk.specs.declared.Entry.{Entry}
 use Rattle.desk.specs.declared.Ether.{Ether}
 use Rattle.desk.specs.Desk.{takenOut}
 use Rattle.rules.specs.Events.{decoded}
-use Rattle.asks.specs.Asks.{deliveredAt}
+use Rattle.asks.specs.Asks.{deliveredAt, within, seenWith}
 use Rattle.deeds.specs.declared.Deed.{Deed}
-use Rattle.deeds.specs.Deeds.{within, seenWith, deedBy}
+use Rattle.deeds.specs.Deeds.{deedBy}
 use Rattle.walk_steps.proofs.Lent.{asks, returned}
 use Rattle.walk_desk.proofs.Structs.{pval, mval, xval, eval}
 use Rattle.purse.proofs.Purse as T

@@ -1,3 +1,4 @@
+-- `card_c::turn` meets its contract: the order said as the card is told it, then the card's step, and what it hands out. Assumes nothing.
 use borrow.Author.Needs.{needs}
 use Rattle.card_c.proofs.turn.Statement.{statement}
 use Rattle.card_c.proofs.turn.Tie as tie

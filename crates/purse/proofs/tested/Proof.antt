@@ -1,3 +1,4 @@
+-- `purse::tested` meets its contract: by cases of the number found before and of the test. Assumes nothing.
 use borrow.Author.Tests.{ne-eqb}
 use Rattle.purse.proofs.tested.Statement.{statement}
 use Rattle.purse.proofs.tested.Tie as tie

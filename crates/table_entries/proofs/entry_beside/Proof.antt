@@ -1,3 +1,4 @@
+-- `table_entries::entry_beside` meets its contract: each part is what its test promises. Assumes nothing.
 use Rattle.table_records.specs.Records.{entryBeside}
 use borrow.Author.Needs.{needs}
 use Rattle.table_entries.proofs.entry_beside.Statement.{statement}

@@ -1,3 +1,4 @@
+-- `table_messages::message_alone` meets its contract: each part is what its test promises. Assumes nothing.
 use Rattle.table_records.specs.Records.{messageAlone}
 use borrow.Author.Needs.{needs}
 use Rattle.table_messages.proofs.message_alone.Statement.{statement}

@@ -1,3 +1,4 @@
+-- `table_messages::message_beside` meets its contract: each part is what its test promises. Assumes nothing.
 use Rattle.table_records.specs.Records.{messageBeside}
 use borrow.Author.Needs.{needs}
 use Rattle.table_messages.proofs.message_beside.Statement.{statement}

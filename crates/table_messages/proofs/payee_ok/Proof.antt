@@ -1,3 +1,4 @@
+-- `table_messages::payee_ok` meets its contract: by what the comparison of details promises. Assumes nothing.
 use Rattle.table_records.specs.Records.{payeeOk}
 use borrow.Author.Needs.{needs}
 use Rattle.table_messages.proofs.payee_ok.Statement.{statement}

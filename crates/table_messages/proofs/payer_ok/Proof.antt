@@ -1,3 +1,4 @@
+-- `table_messages::payer_ok` meets its contract: by what the comparison of details promises. Assumes nothing.
 use Rattle.table_records.specs.Records.{payerOk}
 use borrow.Author.Needs.{needs}
 use Rattle.table_messages.proofs.payer_ok.Statement.{statement}

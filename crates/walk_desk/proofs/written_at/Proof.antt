@@ -49,11 +49,11 @@ use Rattle.desk.specs.declared.Desk.{Desk}
 use Rattle.desk.specs.Desk.{zeroEntry, takenOut}
 use Rattle.rules.specs.declared.Event.{Event}
 use Rattle.rules.specs.Events.{decoded}
-use Rattle.asks.specs.Asks.{deliveredAt}
+use Rattle.asks.specs.Asks.{deliveredAt, within, seenWith}
 use Rattle.acts.specs.Acts.{withEther}
 use Rattle.deeds.specs.declared.Deed.{Deed}
-use Rattle.deeds.specs.Deeds.{within, seenWith, deedBy, deedAt, writtenOn, deskAfter}
-use Rattle.deeds.proofs.Acts.{within-less}
+use Rattle.deeds.specs.Deeds.{deedBy, deedAt, writtenOn, deskAfter}
+use Rattle.asks.proofs.Looks.{within-less}
 use Rattle.walk_steps.proofs.Lent.{gone, if-test, if-false, opens-ref, shuts-ref, OpenRef, place-of, place-is}
 use Rattle.walk_steps.proofs.Parts.{elem, unraw}
 use Rattle.walk_desk.proofs.Structs.{pval, mval, xval, eval, dval, cval, msize, xsize, mvals, xvals, mvals-at, xvals-at, mvals-set, xvals-set, parts, purses-fit, ether-is, archive-is, count-fits, mvals-long, message-is, ether-written, entries-fit, xvals-long, entry-is, archive-written, desk-is, deed-message, deed-messages, deed-entry, deed-entries, deed-place}

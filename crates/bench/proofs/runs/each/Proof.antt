@@ -1,23 +1,23 @@
 -- `bench::runs::each` meets its contract: the loop's invariant is `Going`, of what the bench holds put together of its parts: the run so far,
--- and the pieces that are left. A turn writes one event's deed at the parts (the laws of Parts), whether or not a message is lost.
+-- and the pieces that are left. A turn is one event at the parts (the laws of Parts), by the five ways on which it can go.
 -- Assumes nothing.
 use Rattle.bench.proofs.Filling.{Going, going-start, going-on, going-end}
-use Rattle.bench.proofs.Parts.{Long, bench, long-parts, by-deed, when-lost, when-none-lost}
-use Rattle.asks.specs.Asks.{deliveredAt}
-use Rattle.acts.specs.Acts.{putBack, byRecord}
 use Rattle.acts.proofs.ByRecord.{place-below}
-use Rattle.deeds.specs.declared.Deed.{Deed}
-use Rattle.deeds.specs.Deeds.{within}
-use Rattle.deeds.proofs.Acts.{actedBy, within-less}
+use Rattle.bench.proofs.Parts.{bench, long-parts, settledAt, by-asked, when-refused, when-nothing, when-sent, when-lost, when-stored}
+use Rattle.refusals.specs.declared.Head.{Head}
+use Rattle.turns.specs.declared.Turned.{Turned}
+use Rattle.asks.specs.declared.Asked.{Asked}
+use Rattle.asks.specs.Asks.{deliveredAt, within}
+use Rattle.asks.proofs.Looks.{within-less}
+use Rattle.acts.specs.Acts.{toldAt, byRecord}
 use Rattle.purse.proofs.Lists.{at-any}
 use Rattle.purse.specs.Details.{zeroMessage}
 use Rattle.purse.specs.Purse.{zeroPurse}
 use Rattle.desk.specs.declared.Answered.{Answered}
-use Rattle.desk.specs.declared.Held.{Held}
-use Rattle.desk.specs.Desk.{zeroEntry}
 use Rattle.rules.specs.declared.Event.{Event}
+use Rattle.desk.specs.declared.Held.{Held}
 use Rattle.rules.specs.Events.{decoded}
-use lib.ListN.{length, take, drop}
+use lib.ListN.{length, take, drop, getD}
 use Prim.Native.Nat.{ℕ, _+_, _*_, _-_, _<_}
 use mathlib.Core.Path.{_≡_, _∙_, ap}
 use mathlib.Core.Logic.{⊎-elim}
@@ -56,109 +56,111 @@ decode-requires c κs = search needs
 place-of-requires : tie.Need-place-of-requires Inv-loop μ-loop
 place-of-requires c κs = search needs
 
+mul-p : tie.Need-mul-p Inv-loop μ-loop
+mul-p c =
+    let placed = c in
+    let below : placed .place-of .result < 32 = rw (placed .place-of .ensures) (place-below (placed .before .decode .result)) in
+    search needs
+
+array-copy-out-p : tie.Need-array-copy-out-p Inv-loop μ-loop
+array-copy-out-p c =
+    let placed = c in
+    let below : placed .place-of .result < 32 = rw (placed .place-of .ensures) (place-below (placed .before .decode .result)) in
+    search needs
+
 delivered-at-requires : tie.Need-delivered-at-requires Inv-loop μ-loop
 delivered-at-requires c κs = search needs
 
 within-requires : tie.Need-within-requires Inv-loop μ-loop
 within-requires c κs = search needs
 
-behind-requires : tie.Need-behind-requires Inv-loop μ-loop
-behind-requires c κs = search needs
-
-behind-requires-2 : tie.Need-behind-requires-2 Inv-loop μ-loop
-behind-requires-2 c κs = search needs
-
-mul-p : tie.Need-mul-p Inv-loop μ-loop
-mul-p c =
-    let placed = c .before .before .before .before in
-    let below : placed .place-of .result < 32 = rw (placed .place-of .ensures) (place-below (placed .before .decode .result)) in
-    omega arith
-
-array-copy-out-p : tie.Need-array-copy-out-p Inv-loop μ-loop
-array-copy-out-p c =
-    let placed = c .before .before .before .before in
-    rw (placed .place-of .ensures) (place-below (placed .before .decode .result))
-
 mul-m : tie.Need-mul-m Inv-loop μ-loop
-mul-m c = let below : c .before .before .before .within .result < 256 = rw (c .before .before .before .within .ensures) (within-less _) in omega arith
+mul-m c = let below : c .within .result < 256 = rw (c .within .ensures) (within-less _) in omega arith
 
 element-copy-out-m : tie.Need-element-copy-out-m Inv-loop μ-loop
-element-copy-out-m c = rw (c .before .before .before .within .ensures) (within-less _)
+element-copy-out-m c = rw (c .within .ensures) (within-less _)
 
-mul-l : tie.Need-mul-l Inv-loop μ-loop
-mul-l c = let below : c .before .before .before .behind .result < 256 = rw (c .before .before .before .behind .ensures) (within-less _) in omega arith
+look-requires : tie.Need-look-requires Inv-loop μ-loop
+look-requires c κs = search needs
 
-element-copy-out-l : tie.Need-element-copy-out-l Inv-loop μ-loop
-element-copy-out-l c = rw (c .before .before .before .behind .ensures) (within-less _)
+ask-requires : tie.Need-ask-requires Inv-loop μ-loop
+ask-requires c κs = search needs
 
-mul-x : tie.Need-mul-x Inv-loop μ-loop
-mul-x c = let below : c .before .before .before .behind2 .result < 256 = rw (c .before .before .before .behind2 .ensures) (within-less _) in omega arith
+of-requires : tie.Need-of-requires Inv-loop μ-loop
+of-requires c κs = search needs
 
-element-copy-out-x : tie.Need-element-copy-out-x Inv-loop μ-loop
-element-copy-out-x c = rw (c .before .before .before .behind2 .ensures) (within-less _)
+tell-requires : tie.Need-tell-requires Inv-loop μ-loop
+tell-requires c κs = search needs
 
-deed-by-requires : tie.Need-deed-by-requires Inv-loop μ-loop
-deed-by-requires c κs = search needs
+change-of-requires : tie.Need-change-of-requires Inv-loop μ-loop
+change-of-requires c κs = search needs
+
+record-requires : tie.Need-record-requires Inv-loop μ-loop
+record-requires c κs = search needs
 
 mul-table : tie.Need-mul-table Inv-loop μ-loop
 mul-table c =
-    let placed = c .before .before .before .before .before .before .before .before .before .before in
+    let placed = c .before .before .before .before .before .before .before .before .before .before .before .before .before in
     let below : placed .place-of .result < 32 = rw (placed .place-of .ensures) (place-below (placed .before .decode .result)) in
     omega arith
 
 array-set-from-table : tie.Need-array-set-from-table Inv-loop μ-loop
 array-set-from-table c =
-    let placed = c .before .before .before .before .before .before .before .before .before .before in
+    let placed = c .before .before .before .before .before .before .before .before .before .before .before .before .before in
     rw (placed .place-of .ensures) (place-below (placed .before .decode .result))
 
-mul-sent : tie.Need-mul-sent Inv-loop μ-loop
-mul-sent c =
-    let end = c .before .before .before .before .before .before .before .before in
-    let below : end .behind .result < 256 = rw (end .behind .ensures) (within-less _) in
-    omega arith
+enum-told : tie.Need-enum-told Inv-loop μ-loop
+enum-told c = search needs
 
-element-set-from-sent : tie.Need-element-set-from-sent Inv-loop μ-loop
-element-set-from-sent c = let end = c .before .before .before .before .before .before .before .before in rw (end .behind .ensures) (within-less _)
+enum-known-change : tie.Need-enum-known-change Inv-loop μ-loop
+enum-known-change c = search needs
 
-mul-kept : tie.Need-mul-kept Inv-loop μ-loop
-mul-kept c =
-    let end = c .before .before .before .before .before .before .before .before in
-    let below : end .behind2 .result < 256 = rw (end .behind2 .ensures) (within-less _) in
-    omega arith
+add-requires : tie.Need-add-requires Inv-loop μ-loop
+add-requires c κs = search needs
 
-element-set-from-kept : tie.Need-element-set-from-kept Inv-loop μ-loop
-element-set-from-kept c = let end = c .before .before .before .before .before .before .before .before in rw (end .behind2 .ensures) (within-less _)
+tested-requires : tie.Need-tested-requires Inv-loop μ-loop
+tested-requires c κs = search needs
 
-lost-requires : tie.Need-lost-requires Inv-loop μ-loop
-lost-requires c κs = search needs
+enum-known-change-2 : tie.Need-enum-known-change-2 Inv-loop μ-loop
+enum-known-change-2 c = search needs
+
+cast-take-out : tie.Need-cast-take-out Inv-loop μ-loop
+cast-take-out c = search needs
+
+take-out-requires : tie.Need-take-out-requires Inv-loop μ-loop
+take-out-requires c κs = search needs
+
+enum-known-change-3 : tie.Need-enum-known-change-3 Inv-loop μ-loop
+enum-known-change-3 c = search needs
+
+store-requires : tie.Need-store-requires Inv-loop μ-loop
+store-requires c κs = search needs
 
 slice-write-answers : tie.Need-slice-write-answers Inv-loop μ-loop
 slice-write-answers c =
-    let turn = c .before .before .before .before .before .before .before .before .before .before .before .before .before .before .before .before in
+    let turn = c .before .before .before .before .before .before .before .before .before .before .before .before in
     let at-loop = turn .before in
     let start = at-loop .before .before .before .before .before .before .before in
     omega (arith, turn .loop-test .taken, at-loop .loop .inv .said .long, start .pre .2)
 
 add-i : tie.Need-add-i Inv-loop μ-loop
 add-i c =
-    let turn = c .before .before .before .before .before .before .before .before .before .before .before .before .before .before .before .before in
+    let turn = c .before .before .before .before .before .before .before .before .before .before .before .before in
     let start = turn .before .before .before .before .before .before .before .before in
     omega (arith, turn .loop-test .taken, start .fits .n)
 
 loop-less : tie.Need-loop-less Inv-loop μ-loop
-loop-less c = let turn = c .before .before .before .before .before .before .before .before .before .before .before .before .before .before .before .before in omega (arith, turn .loop-test .taken)
+loop-less c = let turn = c .before .before .before .before .before .before .before .before .before .before .before .before in omega (arith, turn .loop-test .taken)
 
 loop-again : tie.Need-loop-again Inv-loop μ-loop
 loop-again c =
-    let does = c .before .before .before .before in
-    let reads-x = does .before in
-    let reads-l = reads-x .before in
-    let reads-m = reads-l .before in
-    let reads-p = reads-m .before in
-    let ends = reads-p .before in
-    let end = ends .before in
-    let from = end .before in
-    let placed = from .before .before in
+    let told = c .before in
+    let headed = told .before in
+    let wants = headed .before in
+    let looks = wants .before in
+    let from = looks .before .before in
+    let delivers = from .before in
+    let placed = delivers .before .before in
     let read = placed .before in
     let turn = read .before .before in
     let at-loop = turn .before in
@@ -168,23 +170,31 @@ loop-again c =
     let h : Held = bench (at-loop .loop .table) (start .args .held .desk .purses) (at-loop .loop .ether) (at-loop .loop .archive) in
     let v : Event = read .decode .result in
     let k : ℕ = placed .place-of .result in
-    let d : Deed = does .deed-by .result in
-    let long : Long h = long-parts h (at-loop .loop .inv .ok) in
+    let a : Asked = wants .ask .result in
+    let t : Turned = told .tell .result in
+    let long = long-parts h (at-loop .loop .inv .ok) in
     let below : k < 32 = rw (placed .place-of .ensures) (place-below v) in
-    let from-is : from .within .result ≡ within (deliveredAt v) = from .within .ensures ∙ ap within (from .before .delivered-at .ensures) in
-    let settles : putBack h k (actedBy (h .desk) d) ≡ byRecord h v =
-    by-deed h k (end .behind .result) (ends .behind2 .result) (end .behind .ensures) (ends .behind2 .ensures) d v (from .within .result) _ _ _ _ (long .messages) (placed .place-of .ensures) from-is
-    (at-any (h .table) k _ zeroPurse (omega (arith, below, long .table)))
-    (at-any (h .desk .ether .places) (from .within .result) _ zeroMessage (rw (from .within .ensures, long .messages) (within-less _)))
-    (at-any (h .desk .ether .places) (end .behind .result) _ zeroMessage (rw (end .behind .ensures, long .messages) (within-less _)))
-    (at-any (h .desk .archive .places) (ends .behind2 .result) _ zeroEntry (rw (ends .behind2 .ensures, long .entries) (within-less _)))
-    (does .deed-by .ensures)
+    let inside : k < length (h .table) = omega (arith, below, long .0) in
+    let from-is : from .within .result ≡ within (deliveredAt v) = from .within .ensures ∙ ap within (delivers .delivered-at .ensures) in
+    let m : _ ≡ getD (h .desk .ether .places) (within (deliveredAt v)) zeroMessage =
+    at-any (h .desk .ether .places) (from .within .result) _ zeroMessage (rw (from .within .ensures, long .1) (within-less _))
+    ∙ ap (λ (j : ℕ). getD (h .desk .ether .places) j zeroMessage) from-is
     in
-    let s : Answered = record { answer = d .answer; held = bench _ (start .args .held .desk .purses) (c .if1 .ether) _ } in
-    let done : s ≡ putBack h k (actedBy (h .desk) d) =
+    let settles : settledAt h k a t ≡ byRecord h v =
+    by-asked h k a t v _ _ _ (long .1) (placed .place-of .ensures) (at-any (h .table) k _ zeroPurse inside) m (looks .look .ensures) (wants .ask .ensures)
+    (told .tell .ensures ∙ ap (λ (d : Head). toldAt d a) (headed .of .ensures))
+    in
+    let s : Answered = record { answer = c .if1 .answer; held = bench (c .if1 .table) (start .args .held .desk .purses) (c .if1 .ether) (c .if1 .archive) } in
+    let done : s ≡ settledAt h k a t =
     ⊎-elim
-    (λ w. when-lost h k (end .behind .result) (ends .behind2 .result) (end .behind .ensures) (ends .behind2 .ensures) d (c .if1 .ether) (w .0 .taken) (w .2 ∙ w .1 .ensures))
-    (λ w. when-none-lost h k (end .behind .result) (ends .behind2 .result) (end .behind .ensures) (ends .behind2 .ensures) d (c .if1 .ether) (w .0 .left) (w .1))
+    (λ w. rw (w .7, w .8, w .9, w .10) (when-nothing h k a t (omega (arith, w .0 .taken)) _ (at-any (h .table) k _ zeroPurse inside) _ (w .4 .ensures) _ (w .3 .ensures) (w .6 .given .1)))
+    (⊎-elim
+    (λ w. rw (w .11, w .12, w .13, w .14) (when-sent h k a t (omega (arith, w .0 .taken)) _ (at-any (h .table) k _ zeroPurse inside) _ (w .4 .ensures) _ (w .3 .ensures) _ (w .8 .result) _ (w .6 .given .1) (w .8 .ensures) (w .10 .ensures)))
+    (⊎-elim
+    (λ w. rw (w .10, w .11, w .12, w .13) (when-lost h k a t (omega (arith, w .0 .taken)) _ (at-any (h .table) k _ zeroPurse inside) _ (w .4 .ensures) _ (w .3 .ensures) _ (w .8 .result) (w .6 .given .1) (w .8 .ensures)))
+    (⊎-elim
+    (λ w. rw (w .9, w .10, w .11, w .12) (when-stored h k a t (omega (arith, w .0 .taken)) _ (at-any (h .table) k _ zeroPurse inside) _ (w .4 .ensures) _ (w .3 .ensures) _ (w .8 .result) (w .6 .given .1) (w .8 .ensures)))
+    (λ w. rw (w .1, w .2, w .3, w .4) (when-refused h k a t (w .0 .left))))))
     (c .if1 .came)
     in
     let twelve : 12 * i + 12 - 12 * i ≡ 12 = omega arith in
@@ -213,26 +223,29 @@ each-spec =
     part-decode-end
     decode-requires
     place-of-requires
-    delivered-at-requires
-    within-requires
-    behind-requires
-    behind-requires-2
     mul-p
     array-copy-out-p
+    delivered-at-requires
+    within-requires
     mul-m
     element-copy-out-m
-    mul-l
-    element-copy-out-l
-    mul-x
-    element-copy-out-x
-    deed-by-requires
+    look-requires
+    ask-requires
+    of-requires
+    tell-requires
+    change-of-requires
+    record-requires
     mul-table
     array-set-from-table
-    mul-sent
-    element-set-from-sent
-    mul-kept
-    element-set-from-kept
-    lost-requires
+    enum-told
+    enum-known-change
+    add-requires
+    tested-requires
+    enum-known-change-2
+    cast-take-out
+    take-out-requires
+    enum-known-change-3
+    store-requires
     slice-write-answers
     add-i
     loop-less

@@ -1,3 +1,4 @@
+-- `desk::Archive::empty` meets its contract: 256 zero entries, by what the zero entry promises. Assumes nothing.
 use borrow.Author.Needs.{needs}
 use Rattle.desk.proofs.Archive.empty.Statement.{statement}
 use Rattle.desk.proofs.Archive.empty.Tie as tie

@@ -1,3 +1,4 @@
+-- `desk::Archive::store` meets its contract: the place behind the entries is one of the 256 where there is room; else nothing changes. Assumes nothing.
 use borrow.Author.Tests.{lt-ltb, le-ltb}
 use Rattle.desk.specs.Desk.{stored}
 use borrow.Author.Needs.{needs}

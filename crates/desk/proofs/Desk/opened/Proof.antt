@@ -1,3 +1,4 @@
+-- `desk::Desk::opened` meets its contract: by what the empty ether and the empty archive promise. Assumes nothing.
 use borrow.Author.Needs.{needs}
 use Rattle.desk.proofs.Desk.opened.Statement.{statement}
 use Rattle.desk.proofs.Desk.opened.Tie as tie

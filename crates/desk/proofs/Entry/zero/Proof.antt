@@ -1,3 +1,4 @@
+-- `desk::Entry::zero` meets its contract: by what the zero details promise. Assumes nothing.
 use borrow.Author.Needs.{needs}
 use Rattle.desk.proofs.Entry.zero.Statement.{statement}
 use Rattle.desk.proofs.Entry.zero.Tie as tie

@@ -1,3 +1,4 @@
+-- `desk::Ether::empty` meets its contract: 256 zero messages, by what the zero message promises. Assumes nothing.
 use borrow.Author.Needs.{needs}
 use Rattle.desk.proofs.Ether.empty.Statement.{statement}
 use Rattle.desk.proofs.Ether.empty.Tie as tie

@@ -1,3 +1,4 @@
+-- `purse::Message::zero` meets its contract: by what the zero details promise. Assumes nothing.
 use borrow.Author.Needs.{needs}
 use Rattle.purse.proofs.Message.zero.Statement.{statement}
 use Rattle.purse.proofs.Message.zero.Tie as tie

@@ -1,3 +1,4 @@
+-- `purse::Purse::opened` meets its contract: by what the zero details promise. Assumes nothing.
 use borrow.Author.Needs.{needs}
 use Rattle.purse.proofs.Purse.opened.Statement.{statement}
 use Rattle.purse.proofs.Purse.opened.Tie as tie

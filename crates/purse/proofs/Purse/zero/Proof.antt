@@ -1,3 +1,4 @@
+-- `purse::Purse::zero` meets its contract: by what the zero details promise. Assumes nothing.
 use borrow.Author.Needs.{needs}
 use Rattle.purse.proofs.Purse.zero.Statement.{statement}
 use Rattle.purse.proofs.Purse.zero.Tie as tie

@@ -1,3 +1,4 @@
+-- `table_records::places::at_most` meets its contract: by cases of the test. Assumes nothing.
 use native.Mathlib.Omega.{arith}
 use Rattle.table_records.proofs.places.at_most.Statement.{statement}
 use Rattle.table_records.proofs.places.at_most.Tie as tie

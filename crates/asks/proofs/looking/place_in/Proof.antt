@@ -1,9 +1,9 @@
--- `asks::asking::place_in` meets its contract: a name of 31 or less is its own place.
+-- `asks::looking::place_in` meets its contract: a name of 31 or less is its own place.
 -- Assumes nothing.
 use borrow.Author.Tests.{le-leb, lt-leb}
 use borrow.Author.Needs.{needs}
-use Rattle.asks.proofs.asking.place_in.Statement.{statement}
-use Rattle.asks.proofs.asking.place_in.Tie as tie
+use Rattle.asks.proofs.looking.place_in.Statement.{statement}
+use Rattle.asks.proofs.looking.place_in.Tie as tie
 
 cast-result : tie.Need-cast-result
 cast-result c = search needs

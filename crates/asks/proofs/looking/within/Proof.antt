@@ -1,8 +1,8 @@
--- `deeds::within` meets its contract. Assumes nothing.
-use Rattle.deeds.specs.Deeds.{within}
+-- `asks::looking::within` meets its contract. Assumes nothing.
+use Rattle.asks.specs.Asks.{within}
 use borrow.Author.Tests.{lt-ltb, le-ltb}
-use Rattle.deeds.proofs.within.Statement.{statement}
-use Rattle.deeds.proofs.within.Tie as tie
+use Rattle.asks.proofs.looking.within.Statement.{statement}
+use Rattle.asks.proofs.looking.within.Tie as tie
 
 returns : tie.Need-returns
 unfolding within

@@ -1,9 +1,9 @@
--- `asks::asking::delivered_at` meets its contract: by the kind of the event.
+-- `asks::looking::delivered_at` meets its contract: by the kind of the event.
 -- Assumes nothing.
 use Rattle.asks.specs.Asks.{deliveredAt}
 use borrow.Author.Needs.{needs}
-use Rattle.asks.proofs.asking.delivered_at.Statement.{statement}
-use Rattle.asks.proofs.asking.delivered_at.Tie as tie
+use Rattle.asks.proofs.looking.delivered_at.Statement.{statement}
+use Rattle.asks.proofs.looking.delivered_at.Tie as tie
 
 enum-told : tie.Need-enum-told
 enum-told c = search needs

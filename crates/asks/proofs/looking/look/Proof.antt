@@ -1,4 +1,4 @@
--- `deeds::seen` meets its contract. Assumes nothing.
+-- `asks::looking::look` meets its contract. Assumes nothing.
 use mathlib.Core.Path.{_≡_}
 use Prim.Native.Nat.{ℕ, _<_, _≤_}
 use native.Mathlib.Omega.{arith}
@@ -6,12 +6,11 @@ use borrow.Author.Tests.{lt-ltb, le-ltb}
 use Rattle.purse.specs.declared.Message.{Message}
 use Rattle.purse.specs.Details.{zeroMessage}
 use Rattle.rules.specs.declared.Event.{Event}
 use Rattle.asks.specs.declared.Seen.{Seen}
-use Rattle.asks.specs.Asks.{deliveredAt}
-use Rattle.deeds.specs.Deeds.{seenWith}
+use Rattle.asks.specs.Asks.{deliveredAt, seenWith}
 use borrow.Author.Needs.{needs}
-use Rattle.deeds.proofs.seen.Statement.{statement}
-use Rattle.deeds.proofs.seen.Tie as tie
+use Rattle.asks.proofs.looking.look.Statement.{statement}
+use Rattle.asks.proofs.looking.look.Tie as tie
 
 abbrev looked : ℕ → ℕ → ℕ → Message → Seen
 looked u v w m = record { purses = u; messages = v; entries = w; message = m }
@@ -36,5 +35,5 @@ returns c = there _ _ _ _ _ _ (c .before .delivered-at .ensures) (c .if1 .taken)
 returns-2 : tie.Need-returns-2
 returns-2 c = past _ _ _ _ _ _ _ (c .before .before .delivered-at .ensures) (c .before .if1 .left) (c .zero .ensures)
 
-pub seen-spec : {M : Type 1} → statement M
-seen-spec = tie.close (tie.spec delivered-at-requires zero-requires returns returns-2)
+pub look-spec : {M : Type 1} → statement M
+look-spec = tie.close (tie.spec delivered-at-requires zero-requires returns returns-2)

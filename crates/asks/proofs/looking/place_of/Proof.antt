@@ -1,9 +1,9 @@
--- `asks::asking::place_of` meets its contract: by the kind of the event.
+-- `asks::looking::place_of` meets its contract: by the kind of the event.
 -- Assumes nothing.
 use Rattle.asks.specs.Asks.{placeOf}
 use borrow.Author.Needs.{needs}
-use Rattle.asks.proofs.asking.place_of.Statement.{statement}
-use Rattle.asks.proofs.asking.place_of.Tie as tie
+use Rattle.asks.proofs.looking.place_of.Statement.{statement}
+use Rattle.asks.proofs.looking.place_of.Tie as tie
 
 enum-told : tie.Need-enum-told
 enum-told c = search needs
