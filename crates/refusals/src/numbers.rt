@@ -72,7 +72,7 @@ fn fits(h: Head, kind: u8) -> bool
             let after = h.balance.0 as u64 + d.amount.0 as u64;
             after <= h.most.0 as u64
         }
-        _ => true,
+        0 | 3..=255 => true,
     }
 }
 

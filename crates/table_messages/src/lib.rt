@@ -15,7 +15,11 @@ ghost use Rattle.table_records.specs.Records.{messageAlone, payeeOk, payerOk, m
 fn message_alone(m: Message, purses: u8) -> bool
     ensures { λ r. ⌜ r ≡ messageAlone purses m ⌝ }
 {
-    (1 <= m.kind) & (m.kind <= 3) & is_named(m.details) & is_within(m.details, purses)
+    let kind = m.kind;
+    match kind {
+        1 | 2 | 3 => is_named(m.details) & is_within(m.details, purses),
+        0 | 4..=255 => false,
+    }
 }
 
 // A message beside the record of its payee.
@@ -24,7 +28,12 @@ fn payee_ok(p: Purse, m: Message) -> bool
 {
     let d = m.details;
     let s = d.payeeseq.0;
-    (1 <= s) & (s < p.next.0) & !((m.kind == 3) & ((p.status == 2) & d.same(p.details)))
+    let used = (1 <= s) & (s < p.next.0); // the payee's own number
+    let kind = m.kind;
+    match kind {
+        3 => used & !((p.status == 2) & d.same(p.details)),
+        0..=2 | 4..=255 => used,
+    }
 }
 
 // A message beside the record of its payer.
@@ -33,8 +42,13 @@ fn payer_ok(p: Purse, m: Message) -> bool
 {
     let d = m.details;
     let s = d.payerseq.0;
-    ((m.kind == 1) | ((1 <= s) & (s < p.next.0)))
-        & !((2 <= m.kind) & ((p.status == 1) & d.same(p.details)))
+    let used = (1 <= s) & (s < p.next.0); // the payer's own number
+    let kind = m.kind;
+    match kind {
+        0 => used,
+        1 => true,
+        2..=255 => used & !((p.status == 1) & d.same(p.details)),
+    }
 }
 
 fn message_beside(payee: Purse, payer: Purse, m: Message, purses: u8) -> bool

@@ -62,7 +62,7 @@ pub(crate) fn deliver(h: Head, own: Name, m: Message) -> Turned
         match kind {
             1 => pay(h),
             2 => receive(h),
-            _ => settle(h),
+            0 | 3..=255 => settle(h), // of these `deliver_number` lets 3 by, the acknowledge
         }
     } else {
         refused(h, n)

@@ -34,9 +34,13 @@ returns-2 c =
 
 returns-3 : tie.Need-returns-3
 unfolding fits
-returns-3 c =
+returns-3 c = simp (c .match .keys3)
+
+returns-4 : tie.Need-returns-4
+unfolding fits
+returns-4 c =
     let start = c .before .before in
-    rw (ne-eqb (start .args .kind) 1 (c .match .rest .0 .1), ne-eqb (start .args .kind) 2 (c .match .rest .1))
+    rw (ne-eqb (start .args .kind) 1 (c .match .rest .0 .0 .1), ne-eqb (start .args .kind) 2 (c .match .rest .0 .1))
 
 pub fits-spec : {M : Type 1} → statement M
 fits-spec =
@@ -48,4 +52,5 @@ fits-spec =
     cast-result
     returns
     returns-2
-    returns-3)
+    returns-3
+    returns-4)

@@ -1,6 +1,8 @@
 -- `turns::delivery::deliver` meets its contract: at number 0 the arm of the message's kind is that of `deliveredAt`, and the tests passed leave `pay` and
 -- `receive` what they require; else it is refused. Assumes nothing.
-use mathlib.Core.Path.{sym, _∙_}
+use mathlib.Core.Path.{_≡_, sym, _∙_}
+use mathlib.Core.Logic.{⊎-elim}
+use native.Mathlib.Omega.{arith}
 use Rattle.refusals.specs.Numbers.{deliverNumber}
 use Rattle.refusals.proofs.Passed.{pay-passed, get-passed}
 use Rattle.turns.specs.Turns.{turnDeliver}
@@ -51,7 +53,14 @@ unfolding turnDeliver
 returns-3 c =
     let start = c .before .before .before .before in
     let h = start .args .h in
-    c .settle .ensures ∙ sym (deliver-other h (start .args .m .kind) (c .before .match .rest .0 .1) (c .before .match .rest .1))
+    let kind = start .args .m .kind in
+    let other : (kind ≡ 1 → ⊥) × (kind ≡ 2 → ⊥) =
+    ⊎-elim
+    (λ w. let zero : kind ≡ 0 = w .keys3 in ((λ (e : kind ≡ 1). omega arith), (λ (e : kind ≡ 2). omega arith)))
+    (λ w. (w .rest .0 .0 .1, w .rest .0 .1))
+    (c .before .match .came)
+    in
+    c .settle .ensures ∙ sym (deliver-other h kind (other .0) (other .1))
     ∙ sym (done-at h (deliverNumber h (start .args .own) (start .args .m)) _ (c .before .before .before .deliver-number .ensures) (c .before .before .if1 .taken))
 
 returns-4 : tie.Need-returns-4
