@@ -1,10 +1,11 @@
 #!/usr/bin/env python3
 """Holds README.md and docs/ to the crates, and every contract to the theorem that it leaves one result. Every link's file must be there, and
-where the link's words are a name in backquotes, the file must say that name. Every must-fail edit must have a link from docs/. Every public
-function must have its row in docs/CONTRACTS.md and a contract that asks nothing and has one equation for its result and one for each part
-lent as &mut, with a right side that speaks of the arguments alone; what says more must stand under the page's Exceptions. The theorem of
-its row must be the general law for that many equations, or one of its own that says, word by word and by the same definitions, that two
-results and contents of which the equations hold are equal. Last line 'N passed, M failed'; exit status 1 on any failure."""
+where the link's words are a name in backquotes, the file must say that name. Every must-fail edit must have a link from docs/, and each of
+its old texts must stand once in its file. Every public function must have its row in docs/CONTRACTS.md and a contract that asks nothing and
+has one equation for its result and one for each part lent as &mut, with a right side that speaks of the arguments alone; what says more must
+stand under the page's Exceptions. The theorem of its row must be the general law for that many equations, or one of its own that says, word
+by word and by the same definitions, that two results and contents of which the equations hold are equal. Last line 'N passed, M failed';
+exit status 1 on any failure."""
 import collections
 import pathlib
 import re
@@ -42,12 +43,33 @@ def links():
             yield fault and f"{page.relative_to(ROOT)}: {match.group(0)}: {fault}"
 
 
+def unplaced(edit):
+    """An old text of a must-fail edit that does not stand once in its file, or None."""
+    text = old = path = None
+    texts = {}
+    for line in edit.read_text().splitlines():
+        word, _, rest = line.partition(": ")
+        if word == "file":
+            path = edit.parent.parent / rest
+        elif word == "old":
+            old, text = rest, texts.get(path) or path.read_text()
+        elif word == "new":
+            if text.count(old) != 1:
+                return old
+            texts[path] = text.replace(old, rest)
+    return None
+
+
 def edits():
-    """Each must-fail edit that no page links, or None."""
+    """What is wrong with each must-fail edit, or None: no page links it, or an old text does not stand once in its file."""
     pages = "".join(page.read_text() for page in sorted((ROOT / "docs").glob("*.md")))
     for edit in sorted(CRATES.glob("*/must-fail/*.edit")):
         file = str(edit.relative_to(ROOT))
-        yield None if f"(../{file})" in pages else f"docs/: no link to {file}"
+        if f"(../{file})" not in pages:
+            yield f"docs/: no link to {file}"
+        else:
+            old = unplaced(edit)
+            yield old and f"{file}: stands not once in its file: {old}"
 
 
 def public(library):
