@@ -1,4 +1,5 @@
--- What a well-formed bench's image is: as long as its counts say, and at most 12,042 bytes, which the bench with every place used has.
+-- What a well-formed bench's image is: as long as its counts say, and at most 12,042 bytes. (That this is
+-- reached: crate image.)
 -- Assumes nothing.
 use Prim.Native.Nat.{ℕ, suc, _*_, _≤_, _<_}
 use mathlib.Core.Path.{_≡_, ap, _∙_}
@@ -19,7 +20,6 @@ use Rattle.layout.proofs.Records.{EightPlaces, purse-coded, message-cod
 use Rattle.rules.specs.Bench.{Bench, called, purseAt}
 use Rattle.rules.specs.Table.{tableOk}
 use Rattle.rules.specs.Laid.{seen, placesOk, isZeroPurse, isZeroMessage, isZeroEntry, heldOk}
-use Rattle.rules.proofs.BrokenTables.{full, full-obeys}
 use Rattle.rules.proofs.Facts.{Table, is-table}
 use Rattle.rules.proofs.Places.{laid-seen}
 use Rattle.layout.specs.Head.{headBytes, imageLength}
@@ -106,7 +106,3 @@ module _ (h : Held) (w : heldOk h ≡ true) where
       ++ (flat purseBytes (seen h .purses) ++ (flat messageBytes (seen h .messages) ++ flat entryBytes (seen h .archive)))
   unfolding imageOf benchBytes
   held-image = rw (purses-count, messages-count, entries-count)
-
--- and a bench that obeys the rules reaches it
-pub reached : (heldOk full ≡ true) × (length (imageOf full) ≡ 12_042)
-reached = (full-obeys, held-length full full-obeys)

@@ -15,7 +15,6 @@ use Rattle.purse.specs.Purse.{idle, epr, epv, epa, logPlaces, zeroPurse, idleOk
 use Rattle.desk.specs.declared.Entry.{Entry}
 use Rattle.desk.specs.declared.Held.{Held}
 use Rattle.desk.specs.Desk.{zeroEntry, sameEntry}
-use mathlib.Core.Bool.{true}
 use Rattle.rules.specs.Bench.{Bench, called}
 use Rattle.rules.specs.Table.{countsOk, inTable, purseOk, messageOk, archiveOk, onceOk, clearOk, tableOk}
 use Rattle.rules.specs.Events.{decoded}
@@ -201,12 +200,12 @@ messages = replicate 256 zeroMessage
 abbrev entries : List Entry
 entries = replicate 256 zeroEntry
 
--- as many purses, messages and entries as there are places
+-- as many purses, messages and entries as there are places; that it obeys the rules is `full-obeys` of crate image
 abbrev pub full : Held
 full = lent (replicate 32 quiet) 32 (requests 256) 256 (logged 256) 256
 
 abbrev heldSound : List Held
-heldSound = held table messages entries ∷ full ∷ []
+heldSound = held table messages entries ∷ []
 
 abbrev heldBroken : List Held
 heldBroken =
@@ -231,11 +230,6 @@ pub record Felt : Type 0 where
   pub break : map answer broken ≡ replicate (length broken) 2
   pub held-obey : map heldAnswer heldSound ≡ replicate (length heldSound) 3
   pub held-break : map heldAnswer heldBroken ≡ replicate (length heldBroken) 2
-
--- the largest bench obeys the rules
-pub full-obeys : heldOk full ≡ true
-unfolding sameDetails legal named asPayer asPayee entryOk absent idleOk busyOk placeOk logOk wellFormed sameMessage sameEntry countsOk inTable purseOk messageOk archiveOk onceOk clearOk tableOk isZeroPurse isZeroMessage isZeroEntry heldOk
-full-obeys = refl
 
 pub felt : Felt
 unfolding sameDetails legal named asPayer asPayee entryOk absent idleOk busyOk placeOk logOk wellFormed sameMessage sameEntry countsOk inTable purseOk messageOk archiveOk onceOk clearOk tableOk decoded numberAt acting step isZeroPurse isZeroMessage isZeroEntry heldOk heldStep
