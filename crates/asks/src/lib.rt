@@ -1,14 +1,12 @@
-// What an event asks for: its bytes read, the record and the message that it means, and the tests that read the desk. By value.
+// What an event asks for: the record and the message that it means, and the tests that read the desk. By value.
 use purse::CardEvent;
 use purse::Message;
 use purse::Name;
 
 mod asking; // asking.rt: the tests that read the desk
-mod events; // events.rt: an event's bytes read
 mod looking; // looking.rt: the record that an event means, and what is seen of the desk
 
 pub use asking::ask;
-pub use events::decode;
 pub use looking::delivered_at;
 pub use looking::look;
 pub use looking::place_of;

@@ -1,12 +1,12 @@
--- `asks::events::decode` meets its contract: length and spare byte first, then the fields.
+-- `events::decode` meets its contract: length and spare byte first, then the fields.
 -- Assumes nothing.
 use native.Mathlib.Omega.{arith}
 use borrow.Author.Tests.{eq-eqb, ne-eqb}
 use Rattle.bigendian.proofs.Numbers.{number-there}
 use Rattle.rules.specs.Events.{decoded}
 use borrow.Author.Needs.{needs}
-use Rattle.asks.proofs.events.decode.Statement.{statement}
-use Rattle.asks.proofs.events.decode.Tie as tie
+use Rattle.events.proofs.decode.Statement.{statement}
+use Rattle.events.proofs.decode.Tie as tie
 
 returns : tie.Need-returns
 unfolding decoded

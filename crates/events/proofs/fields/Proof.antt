@@ -1,8 +1,8 @@
--- `asks::events::fields` meets its contract: each arm of the match is one line of the definition.
+-- `events::fields` meets its contract: each arm of the match is one line of the definition.
 -- Assumes nothing.
 use borrow.Author.Tests.{ne-eqb}
-use Rattle.asks.proofs.events.fields.Statement.{statement}
-use Rattle.asks.proofs.events.fields.Tie as tie
+use Rattle.events.proofs.fields.Statement.{statement}
+use Rattle.events.proofs.fields.Tie as tie
 
 returns : tie.Need-returns
 returns c = simp (c .match .keys1)
