@@ -134,7 +134,7 @@ for claim in asserts:
     hold(claim in wanted_asserts, f"asserted, but not so in the crates: {' '.join(claim)}")
 
 rows = {}
-for numbers, words in re.findall(r'^\| "((?:\d+, )*\d+): (.*?)" \|', (ROOT / "docs/RULES.md").read_text(), re.M):
+for numbers, words in re.findall(r'^\| ((?:\d+, )*\d+): "(.*?)" \|', (ROOT / "docs/RULES.md").read_text(), re.M):
     for number in numbers.split(", "):
         rows[int(number)] = words
 answers = re.search(r"enum prs_answer \{(.*?)\};", whole, re.S).group(1)
