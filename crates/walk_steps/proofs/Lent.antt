@@ -20,6 +20,7 @@ use types.Kit.{Given, Post, post, anyQ, prop, runs, Item, ‵, raw, _⊛_, some,
 use types.Run.{Opd, first, branches, skips, jumps, forget, free1}
 use types.Share.{arr-parts}
 use types.Tokens.{lft-new, lft-end, lent-back}
+use types.Mut.{open-ref, close-ref}
 use types.SemTy.{Body as BorBody}
 use denote.RattleType.{RattleType}
 use denote.Shadow.{pureI}
@@ -29,7 +30,7 @@ use denote.Ref.{MutRef, ShrRef}
 use denote.Slice.{sliceVal, MutSlice, ShrSlice, heres, Room, at-slice, codedHoleys}
 use denote.Array.{Array, array-vals, array-tells, array-makes}
 use denote.ArrayMemory.{Single, array-apart, array-whole}
-use denote.Lend.{Held, lends-shr-slice}
+use denote.Lend.{Held, lends-shr, lends-shr-slice}
 use denote.Index as ix
 use denote.Index.{others, row, opens-slice, closes-slice, elem-put}
 use denote.Steps.{opens, closes, looks, shuts, owned, facts, heard}
@@ -91,6 +92,10 @@ OpenSlice R κ q γ b o ys = fsep (fobor κ q (Held R (length ys) b o γ)) (fsep
 abbrev pub OpenAt : (R : RattleType) → Lft → Share → GName → ℕ → ℕ → List (R .Denot) → ℕ → Fml
 OpenAt R κ q γ b o ys i = fsep (others (shares R) fullShare ys i b o) (OpenSlice R κ q γ b o ys)
 
+-- what the holder of a `&mut T` keeps while it is shared out as a `&T` for a lifetime κ′
+abbrev pub SharedRef : (R : RattleType) → Lft → Lft → Share → GName → ℕ → ℕ → R .Denot → Fml
+SharedRef R κ κ′ q γ b o h = fsep (flent κ′ (partAt R fullShare h b o)) (OpenRef R κ q γ b o h)
+
 -- what the holder of a `&mut [T]` keeps while it is shared out as a `&[T]` for a lifetime κ′
 abbrev pub SharedOut : (R : RattleType) → Lft → Lft → Share → GName → ℕ → ℕ → List (R .Denot) → Fml
 SharedOut R κ κ′ q γ b o ys = fsep (flent κ′ (arr-parts (shares R) (length ys) .part fullShare ys b o)) (OpenSlice R κ q γ b o ys)
@@ -145,6 +150,24 @@ module _ {M : Type 1} {𝓤 : URA M} {H : Heap 𝓤} {A : Atoms 𝓤} {K : Type 
         → Step K W (‵ (ShrRef ℓ κ R .own (record { ptr = (b, o); name = γ; now = h }) (vptr b o ∷ [])) ∷ ‵ (flft κ q) ∷ Γ) G (‵ (cellAt q′ (R .mir) vs b o) ∷ ‵ (LookedRef R κ q q′ γ b o h) ∷ Γ) G
     shuts-looked t z R ℓ mk q′ h vs b o is = step (λ s. move t (1 ∷ []) $ fsplit3 t $ move t (3 ∷ []) $ owned t R (Is R) mk h vs is $ move t (1 ∷ 0 ∷ []) $ shuts t z R q′ h vs b o $
         feqI t (List Val) (vptr b o ∷ []) (vptr b o ∷ []) refl $ move t (0 ∷ 2 ∷ 3 ∷ []) $ fjoin3 t $ s)
+
+    -- a `&mut T` is shared out, `&*r`, for a lifetime α that is made for it
+    pub shares-ref : K → Soaks G → (R : RattleType) (ℓ ℓ′ : Lifetime) {κ : Lft} {q : Share} {γ : GName} (h : R .Denot) (b o : ℕ)
+        → ((α : ℕ) (γ₁ : GName) → Seq K W (‵ (ShrRef ℓ′ (α ∷ []) R .own (record { ptr = (b, o); name = γ₁; now = h }) (vptr b o ∷ [])) ∷ ‵ (flft (α ∷ []) fullShare) ∷ ‵ (SharedRef R κ (α ∷ []) q γ b o h) ∷ Γ) G)
+        → Seq K W (‵ (MutRef ℓ κ R .own (record { ptr = (b, o); name = γ; now = h }) (vptr b o ∷ [])) ∷ ‵ (flft κ q) ∷ Γ) G
+    shares-ref t z R ℓ ℓ′ h b o k =
+        fsplit3 t $ drop t $ open-ref t z (mem R) {x = h} {b = b} {o = o} $ lft-new t z (λ α. move t (1 ∷ []) $
+        use1 W (later (some (λ (γ₁ : GName). ‵ (ShrRef ℓ′ (α ∷ []) R .own (record { ptr = (b, o); name = γ₁; now = h }) (vptr b o ∷ [])) ⊛ ‵ (flent (α ∷ []) (partAt R fullShare h b o)))))
+        (lends-shr 𝓤 H A W R ℓ′ (α ∷ []) fullShare h b o) $ await t z $ pick t (λ γ₁. split t $
+        -- [the `&T`; the lender's part; the new token; the open borrow; obs; auth]
+        move t (3 ∷ 4 ∷ 5 ∷ []) $ fjoin3 t $ move t (2 ∷ 0 ∷ []) $ fjoin t $ move t (1 ∷ 2 ∷ 0 ∷ []) $ k α γ₁))
+
+    -- α is ended, and the `&mut T` is there again as it was
+    pub unshares-ref : K → Soaks G → (R : RattleType) (ℓ : Lifetime) {κ : Lft} {q : Share} {γ : GName} {α : ℕ} (h : R .Denot) (b o : ℕ)
+        → Step K W (‵ (MutRef ℓ κ R .own (record { ptr = (b, o); name = γ; now = h }) (vptr b o ∷ [])) ∷ ‵ (flft κ q) ∷ Γ) G (‵ (flft (α ∷ []) fullShare) ∷ ‵ (SharedRef R κ (α ∷ []) q γ b o h) ∷ Γ) G
+    unshares-ref t z R ℓ h b o = step (λ s. lft-end t z $ move t (1 ∷ []) $ fsplit t $ move t (2 ∷ 0 ∷ []) $ lent-back t z $
+        -- [the value; the open borrow, obs and auth]
+        move t (1 ∷ []) $ fsplit3 t $ move t (3 ∷ []) $ close-ref t z (mem R) h {b = b} {o = o} $ feqI t (List Val) (vptr b o ∷ []) (vptr b o ∷ []) refl $ fjoin3 t $ s)
 
     -- a `&mut [T]` and the token, for its elements side by side and what closes the borrow
     pub opens-row : K → Soaks G → (R : RattleType) (ℓ : Lifetime) {κ : Lft} {q : Share} {γ : GName} (ys : List (R .Denot)) (b o : ℕ)
