@@ -1,4 +1,4 @@
--- The bench's step is `actOn` at the one record that the event names, put back at its place.
+-- The bench's step is `actOn` at the one record that the event is seen to mean, put back at its place.
 -- Why: on lists laid out in their places a read, a store, a message more or less and an entry more are those of the lists (the laws of
 -- Padded), and each kind's tests are the same numbers; a refusal puts back the record that was read.
 -- Assumes nothing.
@@ -11,7 +11,7 @@ use lib.ListN.{length, getD, take, drop, set, length-set, length-append, length-
 use lib.Seq.{set-getD, length-take-le}
 use lib.Dec.{ltb, leb, eqb}
 use native.Mathlib.Omega.{arith}
-use borrow.Author.Tests.{leb-true, leb-false, ltb-true, le-leb, lt-ltb}
+use borrow.Author.Tests.{leb-false, ltb-true, le-leb, lt-ltb}
 use Rattle.purse.specs.declared.Name.{Name}
 use Rattle.purse.specs.declared.Details.{Details}
 use Rattle.purse.specs.declared.Message.{Message}
@@ -263,21 +263,3 @@ unfolding heldStep
 step-by-record h l w =
     let t : Table (seen h) = is-table (seen h) (seen-ok h w) in
     rw w (acts (seen h) t (decoded l) ∙ ap (λ (x : Held). byRecord x (decoded l)) (laid-seen h w))
-
--- the place is one of the table's
-placed : (n : Name) → placeIn n < 32
-placed n =
-    ⊎-elim
-    (λ (w : leb (n .0) 31 ≡ true). rw w (omega (arith, leb-true (n .0) 31 w)))
-    (λ (w : leb (n .0) 31 ≡ false). rw w (omega arith))
-    (which (leb (n .0) 31))
-
-pub place-below : (e : Event) → placeOf e < 32
-unfolding placeOf
-place-below Malformed = omega arith
-place-below (StartFrom own other s a) = placed own
-place-below (StartTo own other s a) = placed own
-place-below (Deliver own i) = placed own
-place-below (Abort own) = placed own
-place-below (Lose i) = omega arith
-place-below (Collect own) = placed own

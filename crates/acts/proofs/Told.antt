@@ -7,9 +7,9 @@ use Rattle.turns.specs.declared.Turned.{Turned}
 use Rattle.desk.specs.declared.Desk.{Desk}
 use Rattle.rules.specs.declared.Event.{Event}
 use Rattle.asks.specs.declared.Asked.{Asked}
-use Rattle.asks.specs.Asks.{deliveredAt, seenAt, asked}
+use Rattle.asks.specs.Asks.{seenAt, asked}
 use Rattle.acts.specs.Acts.{toldAt, changeOf, settled, actOn}
 
-pub acted : (p : Purse) (d : Desk) (v : Event) (a : Asked) (t : Turned) → a ≡ asked (seenAt d (deliveredAt v)) v → t ≡ toldAt (headOf p) a → settled p d t (changeOf p a (t .message)) ≡ actOn p d v
+pub acted : (p : Purse) (d : Desk) (v : Event) (a : Asked) (t : Turned) → a ≡ asked (seenAt d v) v → t ≡ toldAt (headOf p) a → settled p d t (changeOf p a (t .message)) ≡ actOn p d v
 unfolding actOn
 acted p d v a t ask told = rw (told, ask)

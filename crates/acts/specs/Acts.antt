@@ -1,4 +1,4 @@
--- What an event does, at a table that is well formed: it touches the desk and the one record that it names. What it asks for is told to the
+-- What an event does, at a table that is well formed: it touches the desk and the one record that it means. What it asks for is told to the
 -- card, at the head of the record (`toldAt`); then it is settled (`settled`). That this is the bench's step is `step-by-record`.
 use Prim.Native.Nat.{ℕ}
 use mathlib.Core.Bool.{Bool, cond}
@@ -26,11 +26,11 @@ use Rattle.desk.specs.Desk.{added, takenOut, stored}
 use Rattle.rules.specs.declared.Event.{Event}
 use Rattle.asks.specs.declared.Asked.{Asked}
 use Rattle.asks.specs.declared.Asked.the-variants as asks
-use Rattle.asks.specs.Asks.{placeOf, deliveredAt, seenAt, asked}
+use Rattle.asks.specs.Asks.{seenAt, asked}
 use Rattle.acts.specs.declared.Change.{Change}
 use Rattle.acts.specs.declared.Change.the-variants as change
 
--- what an event does at the record that it names: the answer, and the record and the desk as they then stand
+-- what an event does at the record that it means: the answer, and the record and the desk as they then stand
 pub record Acted : Type 0 where
   pub answer : ℕ
   pub purse : Purse
@@ -97,13 +97,13 @@ answeredOn p d a = settled p d (toldAt (headOf p) a) (changeOf p a (toldAt (head
 
 -- the step of an event at its record p and the desk
 unfoldable pub actOn : Purse → Desk → Event → Acted
-actOn p d e = answeredOn p d (asked (seenAt d (deliveredAt e)) e)
+actOn p d e = answeredOn p d (asked (seenAt d e) e)
 
 -- the record put back at its place of the table, the desk beside it
 abbrev pub putBack : Held → ℕ → Acted → Answered
 putBack h i a =
     record { answer = a .answer; held = record { table = set (h .table) i (a .purse); desk = a .desk } }
 
--- an event at a table that is well formed: one record is looked up, and put back
+-- an event at a table that is well formed: the one record that it is seen to mean is looked up, and put back
 unfoldable pub byRecord : Held → Event → Answered
-byRecord h e = putBack h (placeOf e) (actOn (getD (h .table) (placeOf e) zeroPurse) (h .desk) e)
+byRecord h e = putBack h (seenAt (h .desk) e .place) (actOn (getD (h .table) (seenAt (h .desk) e .place) zeroPurse) (h .desk) e)

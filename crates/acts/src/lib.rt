@@ -1,4 +1,4 @@
-// What an event does: the card told at the head of the record that it names, and what that changes at the desk. By value.
+// What an event does: the card told at the head of the record that it means, and what that changes at the desk. By value.
 use desk::Entry;
 use purse::Message;
 

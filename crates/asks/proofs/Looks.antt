@@ -1,17 +1,21 @@
--- Where an event looks: the place is one of the 256, and what stands there is what the tests read of the whole desk. Assumes nothing.
+-- Where an event looks: the message's place is one of the 256, and what stands there is what the tests read of the whole desk; the record's place
+-- is one of the table's. Assumes nothing.
 use mathlib.Core.Path.{_≡_}
-use mathlib.Core.Bool.{true}
-use mathlib.Core.Logic.{inl, inr}
+use mathlib.Core.Bool.{true, false}
+use mathlib.Core.Logic.{inl, inr, ⊎-elim}
 use Prim.Native.Nat.{ℕ, _<_}
 use native.Mathlib.Omega.{arith}
 use lib.ListN.{length, getD, List·getD-eq-default}
-use lib.Dec.{ltb}
-use borrow.Author.Tests.{ltb-true, ltb-false}
+use lib.Dec.{ltb, leb}
+use borrow.Author.Tests.{ltb-true, ltb-false, leb-true}
+use Rattle.purse.specs.declared.Name.{Name}
+use Rattle.purse.specs.declared.Message.{Message}
 use Rattle.purse.specs.Details.{zeroMessage}
 use Rattle.purse.proofs.Bools.{which}
 use Rattle.desk.specs.declared.Desk.{Desk}
 use Rattle.rules.specs.declared.Event.{Event}
-use Rattle.asks.specs.Asks.{deliveredAt, within, seenWith, seenAt}
+use Rattle.rules.specs.declared.Event.the-variants.{Malformed, StartFrom, StartTo, Deliver, Abort, Lose, Collect}
+use Rattle.asks.specs.Asks.{placeIn, placeOf, deliveredAt, within, seenWith, seenAt}
 
 pub within-less : (n : ℕ) → within n < 256
 unfolding within
@@ -23,10 +27,35 @@ within-is n p = rw p
 
 -- what stands at the place within which an event delivers is what its tests read
 pub seen-lent : (d : Desk) (e : Event) → length (d .ether .places) ≡ 256
-    → seenWith (d .purses) (d .ether .count) (d .archive .count) (getD (d .ether .places) (within (deliveredAt e)) zeroMessage) e ≡ seenAt d (deliveredAt e)
+    → seenWith (d .purses) (d .ether .count) (d .archive .count) (getD (d .ether .places) (within (deliveredAt e)) zeroMessage) e ≡ seenAt d e
 unfolding within seenWith
 seen-lent d e long =
     elim (which (ltb (deliveredAt e) 256)) [
       | inl p ↦ rw p
       | inr p ↦ rw (p, List·getD-eq-default (d .ether .places) zeroMessage {n = deliveredAt e} (omega (arith, long, ltb-false (deliveredAt e) 256 p)))
     ]
+
+-- the record's place is one of the table's
+placed : (n : Name) → placeIn n < 32
+placed n =
+    ⊎-elim
+    (λ (w : leb (n .0) 31 ≡ true). rw w (omega (arith, leb-true (n .0) 31 w)))
+    (λ (w : leb (n .0) 31 ≡ false). rw w (omega arith))
+    (which (leb (n .0) 31))
+
+place-below : (e : Event) → placeOf e < 32
+unfolding placeOf
+place-below Malformed = omega arith
+place-below (StartFrom own other s a) = placed own
+place-below (StartTo own other s a) = placed own
+place-below (Deliver own i) = placed own
+place-below (Abort own) = placed own
+place-below (Lose i) = omega arith
+place-below (Collect own) = placed own
+
+pub look-below : (purses messages entries : ℕ) (m : Message) (e : Event) → seenWith purses messages entries m e .place < 32
+unfolding seenWith
+look-below purses messages entries m e = place-below e
+
+pub seen-below : (d : Desk) (e : Event) → seenAt d e .place < 32
+seen-below d e = place-below e

@@ -1,4 +1,4 @@
--- What an event asks for, at a table that is well formed: the one record that it names, the message that it delivers, and the tests that
+-- What an event asks for, at a table that is well formed: the one record that it means, the message that it delivers, and the tests that
 -- read the desk, in document 01's order for each kind (`asked`). Those that read one purse alone are the card's, behind them.
 use Prim.Native.Nat.{ℕ}
 use mathlib.Core.Bool.{Bool, cond}
@@ -47,10 +47,11 @@ deliveredAt (Collect own) = places
 unfoldable pub within : ℕ → ℕ
 within n = cond (ltb n places) n 255
 
--- what an event's tests read of the desk: m stands at the place within which it delivers
+-- the place of the record that an event means, and what its tests read of the desk: m stands at the place within which it delivers
 unfoldable pub seenWith : ℕ → ℕ → ℕ → Message → Event → Seen
 seenWith purses messages entries m e =
     record {
+      place = placeOf e;
       purses = purses;
       messages = messages;
       entries = entries;
@@ -58,13 +59,14 @@ seenWith purses messages entries m e =
     }
 
 -- the same, said of the whole desk (`seen-lent`)
-abbrev pub seenAt : Desk → ℕ → Seen
-seenAt d i =
+abbrev pub seenAt : Desk → Event → Seen
+seenAt d e =
     record {
+      place = placeOf e;
       purses = d .purses;
       messages = d .ether .count;
       entries = d .archive .count;
-      message = getD (d .ether .places) i zeroMessage;
+      message = getD (d .ether .places) (deliveredAt e) zeroMessage;
     }
 
 -- 4: "no such purse"

@@ -9,11 +9,12 @@ mod looking; // looking.rt: the record that an event means, and what is seen of 
 pub use asking::ask;
 pub use looking::delivered_at;
 pub use looking::look;
-pub use looking::place_of;
 pub use looking::within;
 
-// What an event's tests read of the desk: its counts, and the message that is delivered, or an all-zero one.
+// What is seen of an event and the desk: the place of the record that the event means; and what its tests read of the desk, its counts and the
+// message that is delivered, or an all-zero one.
 pub struct Seen {
+    pub place: usize,
     pub purses: u8,
     pub messages: u16,
     pub entries: u16,

@@ -1,4 +1,4 @@
-// Where an event looks: the record that it names, the message that it delivers, and what its tests see of the desk.
+// Where an event looks: the record that it means, the message that it delivers, and what its tests see of the desk.
 use crate::Seen;
 use purse::Message;
 use purse::Name;
@@ -15,7 +15,7 @@ fn place_in(name: Name) -> usize
 }
 
 // The record that an event names; 0 where it names none.
-pub fn place_of(event: Event) -> usize
+fn place_of(event: Event) -> usize
     ensures { λ r. ⌜ r ≡ placeOf event ⌝ }
 {
     match event {
@@ -71,12 +71,14 @@ pub fn within(n: usize) -> usize
     if n < 256 { n } else { 255 }
 }
 
-// What an event's tests read of the desk: m is the message at the place within which it delivers.
+// The place of the record that an event means, and what its tests read of the desk: m is the message at the place within which it delivers.
 pub fn look(purses: u8, messages: u16, entries: u16, m: Message, event: Event) -> Seen
     ensures { λ r. ⌜ r ≡ seenWith purses messages entries m event ⌝ }
 {
+    let place = place_of(event);
     if delivered_at(event) < 256 {
         Seen {
+            place: place,
             purses: purses,
             messages: messages,
             entries: entries,
@@ -84,6 +86,7 @@ pub fn look(purses: u8, messages: u16, entries: u16, m: Message, event: Event) -
         }
     } else {
         Seen {
+            place: place,
             purses: purses,
             messages: messages,
             entries: entries,

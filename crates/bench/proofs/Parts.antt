@@ -1,5 +1,5 @@
 -- One event of a run, where the table, the ether and the archive are kept apart: what the card made of the head of the record that the
--- event names, settled at those parts, is the step of the whole (`byRecord`).
+-- event means, settled at those parts, is the step of the whole (`byRecord`).
 -- Why: `byRecord` is what is asked, told, settled and put back; a refusal puts back the record that was read, and each change touches one
 -- part.
 -- Assumes nothing.
@@ -21,7 +21,6 @@ use Rattle.desk.specs.declared.Entry.{Entry}
 use Rattle.desk.specs.declared.Ether.{Ether}
 use Rattle.desk.specs.declared.Archive.{Archive}
 use Rattle.desk.specs.declared.Changed.{Changed}
-use Rattle.desk.specs.declared.Desk.{Desk}
 use Rattle.desk.specs.declared.Held.{Held}
 use Rattle.desk.specs.declared.Answered.{Answered}
 use Rattle.desk.specs.Desk.{added, takenOut, stored}
@@ -35,7 +34,7 @@ use Rattle.asks.specs.declared.Seen.{Seen}
 use Rattle.asks.specs.declared.Asked.{Asked}
 use Rattle.acts.specs.declared.Change.{Change}
 use Rattle.acts.specs.declared.Change.the-variants as change
-use Rattle.asks.specs.Asks.{placeOf, deliveredAt, within, seenWith, seenAt, asked}
+use Rattle.asks.specs.Asks.{deliveredAt, within, seenWith, seenAt, asked}
 use Rattle.asks.proofs.Looks.{seen-lent}
 use Rattle.acts.specs.Acts.{toldAt, changeOf, withEther, withArchive, carriedOut, settled, actOn, putBack, byRecord}
 use Rattle.acts.proofs.Told.{acted}
@@ -71,16 +70,16 @@ module _ (h : Held) (k : ℕ) (a : Asked) (t : Turned) where
   abbrev pub settledAt : Answered
   settledAt = putBack h k (settled here (h .desk) t (changeOf here a (t .message)))
 
-  pub by-asked : (v : Event) (p : Purse) (m : Message) (s : Seen) → length (h .desk .ether .places) ≡ 256 → k ≡ placeOf v → p ≡ here → m ≡ getD (h .desk .ether .places) (within (deliveredAt v)) zeroMessage → s ≡ seenWith (h .desk .purses) (h .desk .ether .count) (h .desk .archive .count) m v → a ≡ asked s v → t ≡ toldAt (headOf p) a → settledAt ≡ byRecord h v
+  pub by-asked : (v : Event) (p : Purse) (m : Message) (s : Seen) → length (h .desk .ether .places) ≡ 256 → k ≡ s .place → p ≡ here → m ≡ getD (h .desk .ether .places) (within (deliveredAt v)) zeroMessage → s ≡ seenWith (h .desk .purses) (h .desk .ether .count) (h .desk .archive .count) m v → a ≡ asked s v → t ≡ toldAt (headOf p) a → settledAt ≡ byRecord h v
   unfolding byRecord
   by-asked v p m s long place read message looked ask told =
-      let sees : s ≡ seenAt (h .desk) (deliveredAt v) =
+      let sees : s ≡ seenAt (h .desk) v =
       looked
       ∙ (ap (λ (x : Message). seenWith (h .desk .purses) (h .desk .ether .count) (h .desk .archive .count) x v) message ∙ seen-lent (h .desk) v long)
       in
       ap (putBack h k)
       (acted here (h .desk) v a t (ask ∙ ap (λ (x : Seen). asked x v) sees) (told ∙ ap (λ (q : Purse). toldAt (headOf q) a) read))
-      ∙ ap (λ (i : ℕ). putBack h i (actOn (getD (h .table) i zeroPurse) (h .desk) v)) place
+      ∙ ap (λ (i : ℕ). putBack h i (actOn (getD (h .table) i zeroPurse) (h .desk) v)) (place ∙ ap (λ (x : Seen). x .place) sees)
 
   pub when-refused : (t .answer ≡ 0 → ⊥) → record { answer = t .answer; held = h } ≡ settledAt
   unfolding settled

@@ -6,7 +6,6 @@ use acts::tell;
 use asks::ask;
 use asks::delivered_at;
 use asks::look;
-use asks::place_of;
 use asks::within;
 use desk::Desk;
 use desk::Held;
@@ -27,8 +26,8 @@ fn smaller(a: usize, b: usize) -> usize
     if a <= b { a } else { b }
 }
 
-// The first n events, at a table that is well formed; the single event too is taken here. Each is looked up (its record, and what is seen of
-// the desk), what it asks for is told to the card, and what that changes is carried out.
+// The first n events, at a table that is well formed; the single event too is taken here. Each is looked at (which record it means, and what
+// its tests read of the desk), what it asks for is told to the card, and what that changes is carried out.
 pub(crate) fn each(held: Held, input: &[u8], answers: &mut [u8], n: usize) -> Held
     requires { ⌜ (heldOk held ≡ true) × (12 * n ≤ length (now input)) × (n ≤ length (now answers)) ⌝ }
     ensures { λ r. ⌜ (r ≡ heldRun held (pieces n (now (input .entry)))) × (now (answers .exit) ≡ heldAnswers held (pieces n (now (input .entry))) ++ drop n (now (answers .entry))) ⌝ }
@@ -43,11 +42,11 @@ pub(crate) fn each(held: Held, input: &[u8], answers: &mut [u8], n: usize) -> He
         let at = 12 * i;
         let end = at + 12;
         let e = decode(&input[at..end]);
-        let k = place_of(e);
-        let p = table[k];
         let j = within(delivered_at(e));
         let m = ether.places[j];
         let seen = look(purses, ether.count, archive.count, m, e);
+        let k = seen.place;
+        let p = table[k];
         let asked = ask(seen, e);
         let t = tell(Head::of(p), asked);
         let mut answer = t.answer;

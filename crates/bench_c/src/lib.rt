@@ -1,6 +1,5 @@
 // The bench's entries: "The bench owns a table of 32 purse records, lent to each call." Each is thin: an event steps one record by value and stores
 // it back; the others work on the table copied out. What each does is the bench's own definition, over the lent table beside the desk.
-use deeds::place;
 use desk::Desk;
 use desk::Figure;
 use purse::Purse;
@@ -8,6 +7,7 @@ use steps::kept;
 use steps::opened;
 use steps::owed;
 use steps::ran;
+use walk_desk::seen_at;
 use walk_desk::written_at;
 use walk_table::copied;
 use walk_table::stored;
@@ -30,8 +30,9 @@ pub extern "C" fn prs_event(table: &mut [Purse], desk: &mut Desk, event: &[u8]) 
     if !table_ok(table, *desk) {
         return 2;
     }
-    let at = place(event);
-    let d = written_at(desk, table[at], event);
+    let seen = seen_at(desk, event);
+    let at = seen.place;
+    let d = written_at(desk, table[at], seen, event);
     table[at] = d.purse;
     d.answer
 }

@@ -1,15 +1,12 @@
--- What an event's deed leaves, written in its places, is what the bench's step leaves: a place that the deed writes as it stood is no change
--- (`set-getD`), and each change has its own place behind those that stand. Assumes nothing.
-use mathlib.Core.Path.{_≡_, refl, sym, ap, _∙_}
-use mathlib.Core.Bool.{Bool, true, false}
+-- What an event's deed leaves, written in its places, is what the bench's step leaves, where the deed goes by what is seen at the desk: a place
+-- that it writes as it stood is no change (`set-getD`), and each change has its own place behind those that stand. Assumes nothing.
+use mathlib.Core.Path.{_≡_, ap}
+use mathlib.Core.Bool.{true, false}
 use mathlib.Core.Logic.{inl, inr, ⊎-elim}
-use Prim.Native.Nat.{ℕ, _<_, _≤_}
-use native.Mathlib.Omega.{arith}
-use mathlib.Core.List.{List}
-use lib.ListN.{length, getD, set, List·getD-eq-default}
+use Prim.Native.Nat.{ℕ}
+use lib.ListN.{getD, set}
 use lib.Seq.{set-getD}
 use lib.Dec.{ltb, eqb}
-use borrow.Author.Tests.{ltb-true, ltb-false, lt-ltb, le-ltb}
 use Rattle.purse.specs.declared.Message.{Message}
 use Rattle.purse.specs.declared.Purse.{Purse}
 use Rattle.purse.specs.Details.{zeroMessage}
@@ -21,14 +18,14 @@ use Rattle.card.specs.Act.{recordAfter}
 use Rattle.desk.specs.declared.Entry.{Entry}
 use Rattle.desk.specs.declared.Desk.{Desk}
 use Rattle.desk.specs.declared.Held.{Held}
-use Rattle.desk.specs.Desk.{zeroEntry, added, takenOut, stored}
+use Rattle.desk.specs.Desk.{zeroEntry, added, stored}
 use Rattle.rules.specs.declared.Event.{Event}
 use Rattle.asks.specs.declared.Seen.{Seen}
 use Rattle.acts.specs.declared.Change.{Change}
 use Rattle.acts.specs.declared.Change.the-variants.{Nothing, Send, Lose, Store}
 use Rattle.asks.specs.declared.Asked.{Asked}
-use Rattle.asks.specs.Asks.{placeOf, deliveredAt, within, seenAt, asked}
-use Rattle.asks.proofs.Looks.{within-is, seen-lent}
+use Rattle.asks.specs.Asks.{within, seenAt, asked}
+use Rattle.asks.proofs.Looks.{within-is}
 use Rattle.acts.specs.Acts.{Acted, toldAt, changeOf, carriedOut, settled, actOn, putBack, byRecord}
 use Rattle.deeds.specs.declared.Deed.{Deed}
 use Rattle.deeds.specs.Deeds.{deskStays, doing, deedOf, deedBy, deedAt, deskAfter}
@@ -51,9 +48,9 @@ module _ (d : Desk) where
   abbrev same-entries : set (d .archive .places) (within (d .archive .count)) entry ≡ d .archive .places
   same-entries = set-getD (d .archive .places) (within (d .archive .count)) zeroEntry
 
-  module _ (i : ℕ) where
+  module _ (v : Event) where
     abbrev s : Seen
-    s = seenAt d i
+    s = seenAt d v
 
     stays-so : (n : ℕ) (q : Purse) → actedBy d (deskStays n q s last entry) ≡ record { answer = n; purse = q; desk = d }
     unfolding deskStays deskAfter
@@ -97,16 +94,12 @@ module _ (d : Desk) where
           | inr z ↦ rw z (stays-so (t .answer) p)
         ]
 
-  acts-so : (p : Purse) (e : Event) → actedBy d (deedBy p (seenAt d (deliveredAt e)) last entry e) ≡ actOn p d e
-  unfolding deedBy actOn
-  acts-so p e = settles-so (deliveredAt e) p (asked (seenAt d (deliveredAt e)) e) (toldAt (headOf p) (asked (seenAt d (deliveredAt e)) e))
-
--- an event's deed, written, is the bench's step at its record and the desk
-pub deed-acts : (p : Purse) (d : Desk) (e : Event) → length (d .ether .places) ≡ 256 → actedBy d (deedAt p d e) ≡ actOn p d e
-unfolding deedAt
-deed-acts p d e long = rw (seen-lent d e long) (acts-so d p e)
+  -- an event's deed, written, is the bench's step at its record and the desk
+  pub deed-acts : (p : Purse) (e : Event) → actedBy d (deedAt p (seenAt d e) d e) ≡ actOn p d e
+  unfolding deedAt deedBy actOn
+  deed-acts p e = settles-so e p (asked (seenAt d e) e) (toldAt (headOf p) (asked (seenAt d e) e))
 
 -- and so, its record put back beside the desk, at the whole bench
-pub deed-by-record : (h : Held) (e : Event) → length (h .desk .ether .places) ≡ 256 → putBack h (placeOf e) (actedBy (h .desk) (deedAt (getD (h .table) (placeOf e) zeroPurse) (h .desk) e)) ≡ byRecord h e
+pub deed-by-record : (h : Held) (e : Event) → putBack h (seenAt (h .desk) e .place) (actedBy (h .desk) (deedAt (getD (h .table) (seenAt (h .desk) e .place) zeroPurse) (seenAt (h .desk) e) (h .desk) e)) ≡ byRecord h e
 unfolding byRecord
-deed-by-record h e long = ap (putBack h (placeOf e)) (deed-acts (getD (h .table) (placeOf e) zeroPurse) (h .desk) e long)
+deed-by-record h e = ap (putBack h (seenAt (h .desk) e .place)) (deed-acts (h .desk) (getD (h .table) (seenAt (h .desk) e .place) zeroPurse) e)

@@ -2,8 +2,7 @@
 -- and the place behind the entries, with both counts; a loss moves the later messages down. What an event leaves as it was is written as
 -- it stood. That this is the bench's step is `deed-acts` in proofs/.
 use Prim.Native.Nat.{ℕ, _+_}
-use mathlib.Core.Bool.{Bool, true, false, cond}
-use mathlib.Core.List.{List}
+use mathlib.Core.Bool.{true, false, cond}
 use lib.ListN.{getD, set}
 use lib.Dec.{ltb, eqb}
 use Rattle.purse.specs.declared.Message.{Message}
@@ -20,7 +19,7 @@ use Rattle.asks.specs.declared.Seen.{Seen}
 use Rattle.asks.specs.declared.Asked.{Asked}
 use Rattle.acts.specs.declared.Change.{Change}
 use Rattle.acts.specs.declared.Change.the-variants.{Nothing, Send, Lose, Store}
-use Rattle.asks.specs.Asks.{deliveredAt, within, seenWith, asked}
+use Rattle.asks.specs.Asks.{within, asked}
 use Rattle.acts.specs.Acts.{toldAt, changeOf, withEther}
 use Rattle.deeds.specs.declared.Deed.{Deed}
 
@@ -85,15 +84,14 @@ deedOf p s last entry a t =
     cond (eqb (t .answer) 0) (doing (recordAfter p (t .head) (t .log)) s last entry (changeOf p a (t .message)))
     (deskStays (t .answer) p s last entry)
 
--- an event at its record p
+-- an event at its record p, by what is seen of it
 unfoldable pub deedBy : Purse → Seen → Message → Entry → Event → Deed
 deedBy p s last entry e = deedOf p s last entry (asked s e) (toldAt (headOf p) (asked s e))
 
 -- an event at its record p and the desk
-unfoldable pub deedAt : Purse → Desk → Event → Deed
-deedAt p d e =
-    deedBy p
-    (seenWith (d .purses) (d .ether .count) (d .archive .count) (getD (d .ether .places) (within (deliveredAt e)) zeroMessage) e)
+unfoldable pub deedAt : Purse → Seen → Desk → Event → Deed
+deedAt p s d e =
+    deedBy p s
     (getD (d .ether .places) (within (d .ether .count)) zeroMessage)
     (getD (d .archive .places) (within (d .archive .count)) zeroEntry)
     e

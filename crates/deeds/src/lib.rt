@@ -1,5 +1,5 @@
-// What an event writes in a lent table and desk, place by place, so that nothing else is moved: worked out by value from the record that it
-// names and the few places that it reads.
+// What an event writes in a lent table and desk, place by place, so that nothing else is moved: worked out by value from what is seen of it, the
+// record that it means and the few places that it reads.
 use acts::Change;
 use acts::change_of;
 use acts::tell;
@@ -8,7 +8,6 @@ use asks::Seen;
 use asks::ask;
 use asks::delivered_at;
 use asks::look;
-use asks::place_of;
 use asks::within;
 use card::record;
 use desk::Entry;
@@ -21,7 +20,7 @@ use turns::Turned;
 ghost use mathlib.Core.Path.{_≡_};
 ghost use Rattle.rules.specs.Events.{decoded};
 ghost use Rattle.desk.specs.Desk.{takenOut};
-ghost use Rattle.asks.specs.Asks.{placeOf, deliveredAt, within, seenWith};
+ghost use Rattle.asks.specs.Asks.{deliveredAt, within, seenWith};
 ghost use Rattle.deeds.specs.Deeds.{deskStays, doing, deedOf, deedBy};
 
 // What an event writes: the answer, its record's next state, what then stands behind the messages and behind the entries with their
@@ -37,13 +36,6 @@ pub struct Deed {
     pub place: usize,
 }
 
-// The place of the record that an event names, below 32.
-pub fn place(event: &[u8]) -> usize
-    ensures { λ r. ⌜ r ≡ placeOf (decoded (now (event .entry))) ⌝ }
-{
-    place_of(decode(event))
-}
-
 // The place of the message that an event delivers; the last place where it delivers none.
 pub fn delivered(event: &[u8]) -> usize
     ensures { λ r. ⌜ r ≡ within (deliveredAt (decoded (now (event .entry)))) ⌝ }
@@ -56,6 +48,13 @@ pub fn behind(count: u16) -> usize
     ensures { λ r. ⌜ r ≡ within count ⌝ }
 {
     within(count as usize)
+}
+
+// What is seen of an event, by the desk's counts and the message m at the place that it delivers.
+pub fn seen_by(purses: u8, messages: u16, entries: u16, m: Message, event: &[u8]) -> Seen
+    ensures { λ r. ⌜ r ≡ seenWith purses messages entries m (decoded (now (event .entry))) ⌝ }
+{
+    look(purses, messages, entries, m, decode(event))
 }
 
 // The record q is written, and the desk stays.
@@ -142,22 +141,12 @@ fn deed_of(p: Purse, s: Seen, last: Message, entry: Entry, asked: Asked, t: Turn
     }
 }
 
-// What an event writes at its record p and behind the messages and the entries that stand, where `last` and `entry` stand now.
-pub fn done_by(
-    p: Purse,
-    purses: u8,
-    messages: u16,
-    entries: u16,
-    m: Message,
-    last: Message,
-    entry: Entry,
-    event: &[u8],
-) -> Deed
-    ensures { λ r. ⌜ r ≡ deedBy p (seenWith purses messages entries m (decoded (now (event .entry)))) last entry (decoded (now (event .entry))) ⌝ }
+// What an event writes at its record p, by what is seen of it, and behind the messages and the entries that stand, where `last` and `entry`
+// stand now.
+pub fn done_by(p: Purse, s: Seen, last: Message, entry: Entry, event: &[u8]) -> Deed
+    ensures { λ r. ⌜ r ≡ deedBy p s last entry (decoded (now (event .entry))) ⌝ }
 {
-    let e = decode(event);
-    let s = look(purses, messages, entries, m, e);
-    let asked = ask(s, e);
+    let asked = ask(s, decode(event));
     let t = tell(Head::of(p), asked);
     deed_of(p, s, last, entry, asked, t)
 }

@@ -1,12 +1,13 @@
--- What the walk cites of the desk and of what is written in it: machine values, and what whoever holds a desk knows of its parts, place by place.
+-- What the walks cite of the desk, of what is seen of it and of what is written in it: machine values, and what whoever holds a desk knows of its
+-- parts, place by place.
 -- Assumes nothing.
 use mathlib.Core.Path.{_≡_, refl, sym, ap, subst, _∙_}
-use Prim.Native.Nat.{ℕ, _<_, _^_}
+use Prim.Native.Nat.{ℕ, _<_, _*_, _^_}
+use native.Mathlib.Omega.{arith}
 use mathlib.Core.List.{[], _∷_, List, map}
 use lib.ListN.{length, getD, set, length-map, List·getD-map}
 use mir.Syntax.{w8, w16}
 use mir.Val.{Val, vint, vstruct, ofList}
-use denote.RattleType.{RattleType}
 use denote.Laws.{Is}
 use denote.Memory.{mem}
 use denote.Array.{Array, arrayVal}
@@ -19,6 +20,7 @@ use Rattle.desk.specs.declared.Ether.{Ether}
 use Rattle.desk.specs.declared.Archive.{Archive}
 use Rattle.desk.specs.declared.Desk.{Desk}
 use Rattle.desk.specs.Desk.{zeroEntry}
+use Rattle.asks.specs.declared.Seen.{Seen}
 use Rattle.deeds.specs.declared.Deed.{Deed}
 use Rattle.walk_steps.proofs.Elements.{map-set, member-is, array-written}
 use Rattle.purse.proofs.Purse as T
@@ -33,6 +35,8 @@ use Rattle.desk.proofs.Archive as A
 use Rattle.desk.proofs.Archive.Laws as A′
 use Rattle.desk.proofs.Desk as D
 use Rattle.desk.proofs.Desk.Laws as D′
+use Rattle.asks.proofs.Seen as S
+use Rattle.asks.proofs.Seen.Laws as S′
 use Rattle.deeds.proofs.Deed as C
 use Rattle.deeds.proofs.Deed.Laws as C′
 
@@ -51,6 +55,9 @@ eval e = LL.val E.the-type E′.the-laws e
 abbrev pub dval : Desk → Val
 dval d = LL.val D.the-type D′.the-laws d
 
+abbrev pub sval : Seen → Val
+sval s = LL.val S.the-type S′.the-laws s
+
 abbrev pub cval : Deed → Val
 cval c = LL.val C.the-type C′.the-laws c
 
@@ -60,6 +67,12 @@ msize = mem M.the-row .size
 
 abbrev pub xsize : ℕ
 xsize = mem X.the-row .size
+
+pub message-fits : (i : ℕ) → i < 256 → i * msize < 2 ^ 64
+message-fits i l = omega arith
+
+pub entry-fits : (i : ℕ) → i < 256 → i * xsize < 2 ^ 64
+entry-fits i l = omega arith
 
 -- ---- the places as a struct's field has them, and their machine values
 abbrev m-into : Message → M.the-field .row .Denot
@@ -160,6 +173,10 @@ module _ (a : Archive) (vs : List Val) (is : Is A.the-row a vs) where
 pub desk-is : (u : ℕ) (e : Ether) (a : Archive) → u < 2 ^ 8 → Is E.the-row e (eval e ∷ []) → Is A.the-row a (LL.val A.the-type A′.the-laws a ∷ [])
     → Is D.the-row (record { purses = u; ether = e; archive = a }) (dval (record { purses = u; ether = e; archive = a }) ∷ [])
 desk-is u e a fits e-is a-is = LL.owes D.the-type D′.the-laws (record { purses = u; ether = e; archive = a }) ((refl, fits), (e-is, (a-is, tt)))
+
+-- ---- what whoever holds what is seen knows
+pub seen-place : (s : Seen) (vs : List Val) → Is S.the-row s vs → s .place < 2 ^ 64
+seen-place s vs is = LL.owed S.the-type S′.the-laws s vs is .0 .1
 
 -- ---- what whoever holds a deed knows
 module _ (c : Deed) (vs : List Val) (is : Is C.the-row c vs) where

@@ -1,4 +1,4 @@
--- `deeds::done_by` meets its contract: what is seen, asked for, told to the card, and what that writes, as in the definition. Assumes nothing.
+-- `deeds::done_by` meets its contract: what is asked for, told to the card, and what that writes, as in the definition. Assumes nothing.
 use borrow.Author.Needs.{needs}
 use Rattle.deeds.specs.Deeds.{deedBy}
 use Rattle.deeds.proofs.done_by.Statement.{statement}
@@ -6,9 +6,6 @@ use Rattle.deeds.proofs.done_by.Tie as tie
 
 decode-requires : tie.Need-decode-requires
 decode-requires c κs = search needs
-
-look-requires : tie.Need-look-requires
-look-requires c κs = search needs
 
 ask-requires : tie.Need-ask-requires
 ask-requires c κs = search needs
@@ -24,7 +21,7 @@ deed-of-requires c κs = search needs
 
 returns : tie.Need-returns
 unfolding deedBy
-returns c = rw (c .deed-of .ensures, c .before .tell .ensures, c .before .before .of .ensures, c .before .before .before .ask .ensures, c .before .before .before .before .look .ensures, c .before .before .before .before .before .decode .ensures)
+returns c = rw (c .deed-of .ensures, c .before .tell .ensures, c .before .before .of .ensures, c .before .before .before .ask .ensures, c .before .before .before .before .decode .ensures)
 
 pub done-by-spec : {M : Type 1} → statement M
-done-by-spec = tie.close (tie.spec decode-requires look-requires ask-requires of-requires tell-requires deed-of-requires returns)
+done-by-spec = tie.close (tie.spec decode-requires ask-requires of-requires tell-requires deed-of-requires returns)

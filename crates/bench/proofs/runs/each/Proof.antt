@@ -2,13 +2,12 @@
 -- and the pieces that are left. A turn is one event at the parts (the laws of Parts), by the five ways on which it can go.
 -- Assumes nothing.
 use Rattle.bench.proofs.Filling.{Going, going-start, going-on, going-end}
-use Rattle.acts.proofs.ByRecord.{place-below}
 use Rattle.bench.proofs.Parts.{bench, long-parts, settledAt, by-asked, when-refused, when-nothing, when-sent, when-lost, when-stored}
 use Rattle.refusals.specs.declared.Head.{Head}
 use Rattle.turns.specs.declared.Turned.{Turned}
 use Rattle.asks.specs.declared.Asked.{Asked}
 use Rattle.asks.specs.Asks.{deliveredAt, within}
-use Rattle.asks.proofs.Looks.{within-less}
+use Rattle.asks.proofs.Looks.{within-less, look-below}
 use Rattle.acts.specs.Acts.{toldAt, byRecord}
 use Rattle.purse.proofs.Lists.{at-any}
 use Rattle.purse.specs.Details.{zeroMessage}
@@ -19,7 +18,7 @@ use Rattle.desk.specs.declared.Held.{Held}
 use Rattle.rules.specs.Events.{decoded}
 use lib.ListN.{length, take, drop, getD}
 use Prim.Native.Nat.{ℕ, _+_, _*_, _-_, _<_}
-use mathlib.Core.Path.{_≡_, _∙_, ap}
+use mathlib.Core.Path.{_≡_, refl, _∙_, ap}
 use mathlib.Core.Logic.{⊎-elim}
 use native.Mathlib.Omega.{arith}
 use borrow.Author.Needs.{needs}
@@ -53,21 +52,6 @@ part-decode-end c = search needs
 decode-requires : tie.Need-decode-requires Inv-loop μ-loop
 decode-requires c κs = search needs
 
-place-of-requires : tie.Need-place-of-requires Inv-loop μ-loop
-place-of-requires c κs = search needs
-
-mul-p : tie.Need-mul-p Inv-loop μ-loop
-mul-p c =
-    let placed = c in
-    let below : placed .place-of .result < 32 = rw (placed .place-of .ensures) (place-below (placed .before .decode .result)) in
-    search needs
-
-array-copy-out-p : tie.Need-array-copy-out-p Inv-loop μ-loop
-array-copy-out-p c =
-    let placed = c in
-    let below : placed .place-of .result < 32 = rw (placed .place-of .ensures) (place-below (placed .before .decode .result)) in
-    search needs
-
 delivered-at-requires : tie.Need-delivered-at-requires Inv-loop μ-loop
 delivered-at-requires c κs = search needs
 
@@ -82,6 +66,12 @@ element-copy-out-m c = rw (c .within .ensures) (within-less _)
 
 look-requires : tie.Need-look-requires Inv-loop μ-loop
 look-requires c κs = search needs
+
+mul-p : tie.Need-mul-p Inv-loop μ-loop
+mul-p c = let below : c .look .result .place < 32 = rw (c .look .ensures) (look-below _ _ _ _ _) in omega arith
+
+array-copy-out-p : tie.Need-array-copy-out-p Inv-loop μ-loop
+array-copy-out-p c = rw (c .look .ensures) (look-below _ _ _ _ _)
 
 ask-requires : tie.Need-ask-requires Inv-loop μ-loop
 ask-requires c κs = search needs
@@ -100,14 +90,14 @@ record-requires c κs = search needs
 
 mul-table : tie.Need-mul-table Inv-loop μ-loop
 mul-table c =
-    let placed = c .before .before .before .before .before .before .before .before .before .before .before .before .before in
-    let below : placed .place-of .result < 32 = rw (placed .place-of .ensures) (place-below (placed .before .decode .result)) in
+    let looks = c .before .before .before .before .before .before .before .before .before in
+    let below : looks .look .result .place < 32 = rw (looks .look .ensures) (look-below _ _ _ _ _) in
     omega arith
 
 array-set-from-table : tie.Need-array-set-from-table Inv-loop μ-loop
 array-set-from-table c =
-    let placed = c .before .before .before .before .before .before .before .before .before .before .before .before .before in
-    rw (placed .place-of .ensures) (place-below (placed .before .decode .result))
+    let looks = c .before .before .before .before .before .before .before .before .before in
+    rw (looks .look .ensures) (look-below _ _ _ _ _)
 
 enum-told : tie.Need-enum-told Inv-loop μ-loop
 enum-told c = search needs
@@ -138,30 +128,29 @@ store-requires c κs = search needs
 
 slice-write-answers : tie.Need-slice-write-answers Inv-loop μ-loop
 slice-write-answers c =
-    let turn = c .before .before .before .before .before .before .before .before .before .before .before .before in
+    let turn = c .before .before .before .before .before .before .before .before .before .before .before in
     let at-loop = turn .before in
     let start = at-loop .before .before .before .before .before .before .before in
     omega (arith, turn .loop-test .taken, at-loop .loop .inv .said .long, start .pre .2)
 
 add-i : tie.Need-add-i Inv-loop μ-loop
 add-i c =
-    let turn = c .before .before .before .before .before .before .before .before .before .before .before .before in
+    let turn = c .before .before .before .before .before .before .before .before .before .before .before in
     let start = turn .before .before .before .before .before .before .before .before in
     omega (arith, turn .loop-test .taken, start .fits .n)
 
 loop-less : tie.Need-loop-less Inv-loop μ-loop
-loop-less c = let turn = c .before .before .before .before .before .before .before .before .before .before .before .before in omega (arith, turn .loop-test .taken)
+loop-less c = let turn = c .before .before .before .before .before .before .before .before .before .before .before in omega (arith, turn .loop-test .taken)
 
 loop-again : tie.Need-loop-again Inv-loop μ-loop
 loop-again c =
     let told = c .before in
     let headed = told .before in
     let wants = headed .before in
-    let looks = wants .before in
+    let looks = wants .before .before in
     let from = looks .before .before in
     let delivers = from .before in
-    let placed = delivers .before .before in
-    let read = placed .before in
+    let read = delivers .before in
     let turn = read .before .before in
     let at-loop = turn .before in
     let start = at-loop .before .before .before .before .before .before .before in
@@ -169,11 +158,11 @@ loop-again c =
     let input = start .args .input .now in
     let h : Held = bench (at-loop .loop .table) (start .args .held .desk .purses) (at-loop .loop .ether) (at-loop .loop .archive) in
     let v : Event = read .decode .result in
-    let k : ℕ = placed .place-of .result in
+    let k : ℕ = looks .look .result .place in
     let a : Asked = wants .ask .result in
     let t : Turned = told .tell .result in
     let long = long-parts h (at-loop .loop .inv .ok) in
-    let below : k < 32 = rw (placed .place-of .ensures) (place-below v) in
+    let below : k < 32 = rw (looks .look .ensures) (look-below _ _ _ _ _) in
     let inside : k < length (h .table) = omega (arith, below, long .0) in
     let from-is : from .within .result ≡ within (deliveredAt v) = from .within .ensures ∙ ap within (delivers .delivered-at .ensures) in
     let m : _ ≡ getD (h .desk .ether .places) (within (deliveredAt v)) zeroMessage =
@@ -181,7 +170,7 @@ loop-again c =
     ∙ ap (λ (j : ℕ). getD (h .desk .ether .places) j zeroMessage) from-is
     in
     let settles : settledAt h k a t ≡ byRecord h v =
-    by-asked h k a t v _ _ _ (long .1) (placed .place-of .ensures) (at-any (h .table) k _ zeroPurse inside) m (looks .look .ensures) (wants .ask .ensures)
+    by-asked h k a t v _ _ _ (long .1) refl (at-any (h .table) k _ zeroPurse inside) m (looks .look .ensures) (wants .ask .ensures)
     (told .tell .ensures ∙ ap (λ (d : Head). toldAt d a) (headed .of .ensures))
     in
     let s : Answered = record { answer = c .if1 .answer; held = bench (c .if1 .table) (start .args .held .desk .purses) (c .if1 .ether) (c .if1 .archive) } in
@@ -222,14 +211,13 @@ each-spec =
     part-decode-start
     part-decode-end
     decode-requires
-    place-of-requires
-    mul-p
-    array-copy-out-p
     delivered-at-requires
     within-requires
     mul-m
     element-copy-out-m
     look-requires
+    mul-p
+    array-copy-out-p
     ask-requires
     of-requires
     tell-requires
