@@ -37,7 +37,8 @@ use Rattle.desk.specs.declared.Answered.{Answered}
 use Rattle.bench.specs.declared.Ran.{Ran}
 use Rattle.bench.specs.Runs.{pieces, taken}
 use Rattle.rules.specs.Laid.{heldOk, heldStep, heldRun, heldAnswers}
-use Rattle.walk_table.specs.Lent.{held, copiedOf, storedOf}
+use Rattle.walk_table.specs.Lent.{held, copiedOf}
+use Rattle.walk_store.specs.Stored.{storedOf}
 use Rattle.walk_table.proofs.Whole.{long-is, read-whole}
 use Rattle.walk_table.proofs.Slices.{Shared}
 use Rattle.walk_table.proofs.Structs.{Table, table-makes, dval}

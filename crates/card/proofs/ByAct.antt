@@ -3,13 +3,12 @@
 -- record that the step leaves.
 -- Assumes nothing.
 use Prim.Native.Nat.{ℕ}
-use mathlib.Core.Path.{_≡_, refl, sym, _∙_, ap}
+use mathlib.Core.Path.{_≡_, _∙_, ap}
 use mathlib.Core.Bool.{true, false, cond}
 use mathlib.Core.Logic.{⊎-elim}
 use lib.Dec.{eqb}
 use Rattle.purse.specs.declared.Name.{Name}
 use Rattle.purse.specs.declared.Purse.{Purse}
-use Rattle.purse.specs.declared.CardAnswer.{CardAnswer}
 use Rattle.purse.specs.declared.CardEvent.{CardEvent}
 use Rattle.purse.specs.declared.CardEvent.the-variants.{StartFrom, StartTo, Deliver, Abort, Collect}
 use Rattle.purse.specs.Details.{zeroDetails, zeroMessage}

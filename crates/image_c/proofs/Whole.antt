@@ -10,8 +10,10 @@ use Rattle.desk.specs.declared.Desk.{Desk}
 use Rattle.desk.specs.declared.Held.{Held}
 use Rattle.rules.specs.Laid.{heldOk}
 use Rattle.layout.specs.Calls.{writeNumber, heldWrite, heldBuffer, readNumber, heldRead}
-use Rattle.walk_table.specs.Lent.{held, copiedOf, storedOf}
-use Rattle.walk_table.proofs.Whole.{stored-whole, read-whole}
+use Rattle.walk_table.specs.Lent.{held, copiedOf}
+use Rattle.walk_store.specs.Stored.{storedOf}
+use Rattle.walk_table.proofs.Whole.{read-whole}
+use Rattle.walk_store.proofs.Whole.{stored-whole}
 
 write-refuses : (k : Held) (out : List ℕ) → heldOk k ≡ false → writeNumber k out ≡ 2
 unfolding writeNumber

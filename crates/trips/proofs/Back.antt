@@ -9,7 +9,7 @@ use lib.ListN.{length, take, drop}
 use lib.Seq.{take-append-seam}
 use lib.Dec.{eqb, leb, ltb}
 use native.Mathlib.Omega.{arith}
-use borrow.Author.Tests.{eqb-true, eqb-false, eq-eqb, ne-eqb, not-false, leb-true, leb-false, ltb-false, le-leb, lt-leb, lt-ltb}
+use borrow.Author.Tests.{eqb-true, eqb-false, ne-eqb, not-false, leb-true, leb-false, ltb-false, le-leb, lt-leb, lt-ltb}
 use Rattle.purse.proofs.Bools.{which}
 use Rattle.purse.proofs.Tests.{passed}
 use Rattle.desk.specs.declared.Held.{Held}

@@ -28,23 +28,18 @@ use denote.Triple.Clauses.{lasts}
 use Rattle.purse.specs.declared.Purse.{Purse}
 use Rattle.purse.specs.Purse.{zeroPurse}
 use Rattle.desk.specs.declared.Desk.{Desk}
-use Rattle.desk.specs.declared.Answered.{Answered}
 use Rattle.rules.specs.Laid.{heldOk}
 use Rattle.walk_table.specs.Lent.{held}
 use Rattle.walk_steps.proofs.Lent.{asks, returned}
-use Rattle.walk_table.proofs.Structs.{pval, Table, table-makes, dval, aval}
+use Rattle.walk_table.proofs.Structs.{pval, Table, table-makes, dval}
 use Rattle.desk.proofs.Desk as D
 use Rattle.desk.proofs.Desk.Laws as D′
-use Rattle.desk.proofs.Answered as R
-use Rattle.desk.proofs.Answered.Laws as R′
 use Rattle.purse.proofs.Purse as T
 use Rattle.purse.proofs.Purse.Laws as T′
 use Rattle.walk_table.proofs.each as each
 use Rattle.walk_table.proofs.each.Symbol.{name as #walk-table·each}
 use Rattle.walk_table.proofs.unused as unused
 use Rattle.walk_table.proofs.unused.Symbol.{name as #walk-table·unused}
-use Rattle.walk_table.proofs.table_of as table-of
-use Rattle.walk_table.proofs.table_of.Symbol.{name as #walk-table·table-of}
 use Rattle.walk_table.proofs.all_ok as all-ok
 use Rattle.walk_table.proofs.all_ok.Symbol.{name as #walk-table·all-ok}
 
@@ -60,12 +55,6 @@ module _ {M : Type 1} (𝓤 : URA M) (H : Heap 𝓤) (A : Atoms 𝓤) (at-mem : 
 
   abbrev pub to-each : Purse → EachC .Ghost
   to-each p = ((tt, tt, tt, (p, tt), (pval p ∷ [], tt)), tt)
-
-  abbrev pub TableOfC : Contract 𝓤
-  TableOfC = tripleOf 𝓤 H A table-of.signature (table-of.spec 𝓤 H A at-mem run)
-
-  abbrev pub to-table-of : Answered → TableOfC .Ghost
-  to-table-of c = ((tt, tt, tt, (c, tt), (aval c ∷ [], tt)), tt)
 
   abbrev pub AllOkC : Contract 𝓤
   AllOkC = tripleOf 𝓤 H A all-ok.signature (all-ok.spec 𝓤 H A at-mem run)
@@ -90,15 +79,6 @@ module _ {M : Type 1} {𝓤 : URA M} {H : Heap 𝓤} {A : Atoms 𝓤} {K : Type 
       nothing t $ owned t T.the-row (Is T.the-row) (LL.makes T.the-type T′.the-plain 𝓤 H A) p (pval p ∷ []) p-is $ fjoin t $ nothing t $ asks t $
       calls-at t fm (EachC 𝓤 H A at-mem run) known (to-each 𝓤 H A at-mem run p) os (λ v.
       returned t tt (‵ ftrue) Table _ (lasts each.ended tt (p, tt)) (λ r ws. r ≡ replicate 32 p) v (λ r ws e is. drop t $ drop t $ k v r is e))
-
-  pub calls-table-of : K → (at-mem : Memory → SProp 𝓤) (run : Routine → Fun 𝓤) → FmC 𝓤 H (W .laws) C → Triple 𝓤 (C #walk-table·table-of) (TableOfC 𝓤 H A at-mem run) → (c : Answered) → Is R.the-row c (aval c ∷ [])
-      → Opds K W (raw (TableOfC 𝓤 H A at-mem run .pre (to-table-of 𝓤 H A at-mem run c)) ∷ Γ) E xs (aval c ∷ [])
-      → ((v : Val) (r : List Purse) → Is Table r (v ∷ []) → r ≡ c .held .table → Seq K W Γ (lands C Λ E d v rest q))
-      → Seq K W Γ (runs C Λ E (seq (call #walk-table·table-of xs d) rest) q)
-  calls-table-of t at-mem run fm known c c-is os k =
-      nothing t $ owned t R.the-row (Is R.the-row) (LL.makes R.the-type R′.the-plain 𝓤 H A) c (aval c ∷ []) c-is $ fjoin t $ nothing t $ asks t $
-      calls-at t fm (TableOfC 𝓤 H A at-mem run) known (to-table-of 𝓤 H A at-mem run c) os (λ v.
-      returned t tt (‵ ftrue) Table _ (lasts table-of.ended tt (c, tt)) (λ r ws. r ≡ c .held .table) v (λ r ws e is. drop t $ drop t $ k v r is e))
 
   pub calls-all-ok : K → (at-mem : Memory → SProp 𝓤) (run : Routine → Fun 𝓤) → FmC 𝓤 H (W .laws) C → Triple 𝓤 (C #walk-table·all-ok) (AllOkC 𝓤 H A at-mem run) → (h : List Purse) (u : Val) (c : Desk) → Is Table h (u ∷ []) → Is D.the-row c (dval c ∷ [])
       → Opds K W (raw (AllOkC 𝓤 H A at-mem run .pre (to-all-ok 𝓤 H A at-mem run h u c)) ∷ Γ) E xs (u ∷ dval c ∷ [])

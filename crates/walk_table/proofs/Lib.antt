@@ -2,4 +2,3 @@ pub mod Structs
 mod Calls
 pub mod Slices
 pub mod Whole
-pub mod Unique

@@ -1,7 +1,7 @@
 -- What is worked out on the table copied out is what the bench's definitions say of the lent table: a table of 32 records is its own copy, and
--- another length is refused by both. Assumes nothing.
+-- the copy of another length breaks the rules, as that table does. Assumes nothing.
 use mathlib.Core.Path.{_≡_, refl, sym, ap, subst, _∙_}
-use Prim.Native.Nat.{ℕ, _<_}
+use Prim.Native.Nat.{_<_}
 use native.Mathlib.Omega.{arith}
 use mathlib.Core.Bool.{true, false}
 use mathlib.Core.Logic.{inl, inr}
@@ -15,24 +15,11 @@ use Rattle.purse.specs.Purse.{zeroPurse, wellFormed}
 use Rattle.purse.proofs.Bools.{which, refute}
 use Rattle.desk.specs.declared.Desk.{Desk}
 use Rattle.desk.specs.declared.Held.{Held}
-use Rattle.desk.specs.declared.Answered.{Answered}
 use Rattle.rules.specs.Bench.{called}
-use Rattle.rules.specs.Laid.{seen, isZeroPurse, heldOk, heldOpening, heldClaims}
+use Rattle.rules.specs.Laid.{seen, isZeroPurse, heldOk, heldClaims}
 use Rattle.rules.proofs.Facts.{Table, is-table}
 use Rattle.rules.proofs.Places.{places-long, places-used, Obeys, obeys}
-use Rattle.walk_table.specs.Lent.{held, copiedOf, storedOf}
-
--- where a call g refuses another length with 2, its answer on the copy, stored, is its answer on the lent table
-pub stored-whole : (g : Held → Answered) (l : List Purse) (d : Desk) → (eqb (length l) 32 ≡ false → g (held l d) ≡ record { answer = 2; held = held l d }) → storedOf l d (g (held (copiedOf l) d)) ≡ g (held l d)
-unfolding copiedOf storedOf
-stored-whole g l d refuses = elim (which (eqb (length l) 32)) [ inl p ↦ rw p | inr p ↦ rw p (sym (refuses p)) ]
-
-opening-refuses : (l : List Purse) (d : Desk) (ns : List ℕ) → eqb (length l) 32 ≡ false → heldOpening (held l d) ns ≡ record { answer = 2; held = held l d }
-unfolding heldOpening
-opening-refuses l d ns p = rw p
-
-pub opening-lent : (l : List Purse) (d : Desk) (ns : List ℕ) → storedOf l d (heldOpening (held (copiedOf l) d) ns) ≡ heldOpening (held l d) ns
-opening-lent l d ns = stored-whole (λ (h : Held). heldOpening h ns) l d (opening-refuses l d ns)
+use Rattle.walk_table.specs.Lent.{held, copiedOf}
 
 -- a table that obeys the rules has 32 records
 pub long-is : (l : List Purse) (d : Desk) → heldOk (held l d) ≡ true → length l ≡ 32

@@ -1,6 +1,5 @@
-// The records of a lent table, all of them: tested, copied out to be worked on by value, and stored. "The bench owns a table of 32 purse records,
-// lent to each call."
-use desk::Answered;
+// The records of a lent table, all of them: tested, and copied out to be worked on by value. "The bench owns a table of 32 purse records, lent to
+// each call."
 use desk::Desk;
 use desk::Held;
 use purse::Purse;
@@ -9,7 +8,7 @@ ghost use mathlib.Core.Path.{_≡_};
 ghost use lib.ListN.{replicate};
 ghost use Rattle.purse.specs.Purse.{zeroPurse};
 ghost use Rattle.rules.specs.Laid.{heldOk};
-ghost use Rattle.walk_table.specs.Lent.{held, copiedOf, storedOf};
+ghost use Rattle.walk_table.specs.Lent.{held, copiedOf};
 
 // A table of unused records.
 fn unused() -> [Purse; 32]
@@ -59,32 +58,4 @@ pub fn table_ok(table: &[Purse], desk: Desk) -> bool
     ensures { λ r. ⌜ r ≡ heldOk (held (now (table .entry)) desk) ⌝ }
 {
     all_ok(copied(table), desk)
-}
-
-// The table of what was answered.
-fn table_of(by: Answered) -> [Purse; 32]
-    ensures { λ r. ⌜ r ≡ by .held .table ⌝ }
-{
-    let held = by.held;
-    held.table
-}
-
-// What was answered by value is stored in a lent table of 32 records and a lent desk; another length is refused, and both stay.
-pub fn stored(table: &mut [Purse], desk: &mut Desk, by: Answered) -> u8
-    ensures { λ r.
-        ⌜ (r ≡ storedOf (now (table .entry)) (now (desk .entry)) by .answer)
-        × (now (table .exit) ≡ storedOf (now (table .entry)) (now (desk .entry)) by .held .table)
-        × (now (desk .exit) ≡ storedOf (now (table .entry)) (now (desk .entry)) by .held .desk) ⌝ }
-{
-    if table.len() != 32 {
-        return 2;
-    }
-    let from = table_of(by);
-    let mut to = 0;
-    while to < 32 {
-        table[to] = from[to];
-        to = to + 1;
-    }
-    *desk = by.held.desk;
-    by.answer
 }

@@ -44,10 +44,12 @@ use Rattle.desk.specs.declared.Held.{Held}
 use Rattle.bench.specs.declared.Ran.{Ran}
 use Rattle.bench.specs.Runs.{pieces, taken}
 use Rattle.desk.specs.declared.Answered.{Answered}
-use Rattle.walk_table.specs.Lent.{held, copiedOf, storedOf}
+use Rattle.walk_table.specs.Lent.{held, copiedOf}
+use Rattle.walk_store.specs.Stored.{storedOf}
 use Rattle.walk_steps.proofs.Lent.{gone, opens-ref, shuts-ref, shares-slice, unshares-slice}
 use Rattle.walk_table.proofs.Structs.{Table, table-typed, dval}
-use Rattle.walk_table.proofs.Slices.{Shared, Lent, LentDesk, CopiedC, StoredC, calls-copied, calls-stored}
+use Rattle.walk_table.proofs.Slices.{Shared, CopiedC, calls-copied}
+use Rattle.walk_store.proofs.Slices.{Lent, LentDesk, StoredC, calls-stored}
 use Rattle.bench_c.proofs.Runs.{run-stored, answers-lent, Buffer, nval, RanSays, RanC, KeptC, calls-ran, calls-kept}
 use Rattle.bench.proofs.Ran as N
 use Rattle.bench.proofs.Ran.Laws as N′
@@ -60,9 +62,9 @@ use Rattle.desk.proofs.Answered.Laws as R′
 use Rattle.walk_table.proofs.copied.Symbol as copied-def
 use Rattle.walk_table.proofs.copied.Symbol.{name as #walk-table·copied}
 use Rattle.walk_table.proofs.copied.Met as copied-thm
-use Rattle.walk_table.proofs.stored.Symbol as stored-def
-use Rattle.walk_table.proofs.stored.Symbol.{name as #walk-table·stored}
-use Rattle.walk_table.proofs.stored.Met as stored-thm
+use Rattle.walk_store.proofs.stored.Symbol as stored-def
+use Rattle.walk_store.proofs.stored.Symbol.{name as #walk-store·stored}
+use Rattle.walk_store.proofs.stored.Met as stored-thm
 use Rattle.bench_c.proofs.steps.ran.Symbol as ran-def
 use Rattle.bench_c.proofs.steps.ran.Symbol.{name as #bench-c·steps·ran}
 use Rattle.bench_c.proofs.steps.ran.Met as ran-thm
@@ -157,7 +159,7 @@ module _ {M : Type 1} (𝓤 : URA M) (H : Heap 𝓤) (A : Atoms 𝓤) (W : Given
       nothing ! $ move ! (4 ∷ 0 ∷ []) $ fjoin ! $ move ! (3 ∷ 0 ∷ []) $ fjoin ! $ move ! (2 ∷ 0 ∷ []) $ fjoin ! $ move ! (1 ∷ 0 ∷ []) $ fjoin ! $ frame ! $ owned ! usize (Is usize) (uint-makes 𝓤 H A W w64) n _ (refl, fits) $ done !
 
   module _ (C : Calls 𝓤 H) (Λ : Loops 𝓤 H) (fm : FmC 𝓤 H (W .laws) C) (known-copied : Triple 𝓤 (C #walk-table·copied) (CopiedC 𝓤 H A at-mem run)) (known : Triple 𝓤 (C #bench-c·steps·ran) (RanC 𝓤 H A at-mem run))
-      (known-kept : Triple 𝓤 (C #bench-c·steps·kept) (KeptC 𝓤 H A at-mem run)) (known-stored : Triple 𝓤 (C #walk-table·stored) (StoredC 𝓤 H A at-mem run)) where
+      (known-kept : Triple 𝓤 (C #bench-c·steps·kept) (KeptC 𝓤 H A at-mem run)) (known-stored : Triple 𝓤 (C #walk-store·stored) (StoredC 𝓤 H A at-mem run)) where
     module _ (l₀ l₁ l₂ l₃ l₄ l₅ l₆ l₇ l₈ l₉ l₁₀ l₁₁ l₁₂ l₁₃ l₁₄ l₁₅ l₁₆ : ℕ) where
       abbrev E : Env 𝓤 H
       E = (tyInt w64, l₀) ∷ (ref, l₁) ∷ (desk-ref, l₂) ∷ (list-ref, l₃) ∷ (answers-ref, l₄) ∷ (N′.mir, l₅) ∷ (arr, l₆) ∷ (imm-ptr, l₇) ∷ (sliceTy imm-ptr, l₈) ∷ (D′.mir, l₉) ∷ (byte-ptr, l₁₀) ∷ (sliceTy byte-ptr, l₁₁) ∷ (tyInt w8, l₁₂) ∷ (mut-ptr, l₁₃) ∷ (sliceTy mut-ptr, l₁₄) ∷ (desk-ptr, l₁₅) ∷ (R′.mir, l₁₆) ∷ []
@@ -224,7 +226,7 @@ module _ {M : Type 1} (𝓤 : URA M) (H : Heap 𝓤) (A : Atoms 𝓤) (W : Given
         body l₀ l₁ l₂ l₃ l₄ l₅ l₆ l₇ l₈ l₉ l₁₀ l₁₁ l₁₂ l₁₃ l₁₄ l₁₅ l₁₆)))))))))))))))))
 
 prs-run-meets : {M : Type 1} (𝓤 : URA M) (H : Heap 𝓤) (A : Atoms 𝓤) (W : Given 𝓤 H A) (at-mem : Memory → SProp 𝓤) (run : Routine → Fun 𝓤) (𝓣 : Tables 𝓤 H)
-    → Triple 𝓤 (𝓣 .C #walk-table·copied) (CopiedC 𝓤 H A at-mem run) → Triple 𝓤 (𝓣 .C #bench-c·steps·ran) (RanC 𝓤 H A at-mem run) → Triple 𝓤 (𝓣 .C #bench-c·steps·kept) (KeptC 𝓤 H A at-mem run) → Triple 𝓤 (𝓣 .C #walk-table·stored) (StoredC 𝓤 H A at-mem run)
+    → Triple 𝓤 (𝓣 .C #walk-table·copied) (CopiedC 𝓤 H A at-mem run) → Triple 𝓤 (𝓣 .C #bench-c·steps·ran) (RanC 𝓤 H A at-mem run) → Triple 𝓤 (𝓣 .C #bench-c·steps·kept) (KeptC 𝓤 H A at-mem run) → Triple 𝓤 (𝓣 .C #walk-store·stored) (StoredC 𝓤 H A at-mem run)
     → Meets 𝓤 H A f.signature (WpFn 𝓤 H (𝓣 .C) (𝓣 .Λ) code.function) (f.spec 𝓤 H A at-mem run)
 prs-run-meets 𝓤 H A W at-mem run 𝓣 known-copied known known-kept known-stored =
     walk-meets 𝓤 H A f.ended stayed W (goes-gave-slice 𝓤 H A W 4 0 tt (plain (λ _. T.the-row)), (goes-gave-ref 𝓤 H A W 4 1 tt (plain (λ _. D.the-row)), (goes-none-slice 𝓤 H A W 4 (2 ∷ []) tt (plain (λ _. u8)) yes, (goes-gave-slice 𝓤 H A W 4 3 tt (plain (λ _. u8)), tt)))) (f.clauses 𝓤 H A at-mem run)
@@ -244,4 +246,4 @@ prs-run-spec 𝓤 H 𝓜 𝓖 𝓡 =
     (cited 𝓤 H (CopiedC 𝓤 H (𝓖 .A) (𝓜 .mem) (𝓡 .run)) 𝓜 𝓡 code.env #walk-table·copied copied-def.routine code.calls-walk-table·copied (copied-thm.met 𝓤 H 𝓜 𝓖 𝓡))
     (cited 𝓤 H (RanC 𝓤 H (𝓖 .A) (𝓜 .mem) (𝓡 .run)) 𝓜 𝓡 code.env #bench-c·steps·ran ran-def.routine code.calls-bench-c·steps·ran (ran-thm.met 𝓤 H 𝓜 𝓖 𝓡))
     (cited 𝓤 H (KeptC 𝓤 H (𝓖 .A) (𝓜 .mem) (𝓡 .run)) 𝓜 𝓡 code.env #bench-c·steps·kept kept-def.routine code.calls-bench-c·steps·kept (kept-thm.met 𝓤 H 𝓜 𝓖 𝓡))
-    (cited 𝓤 H (StoredC 𝓤 H (𝓖 .A) (𝓜 .mem) (𝓡 .run)) 𝓜 𝓡 code.env #walk-table·stored stored-def.routine code.calls-walk-table·stored (stored-thm.met 𝓤 H 𝓜 𝓖 𝓡)))
+    (cited 𝓤 H (StoredC 𝓤 H (𝓖 .A) (𝓜 .mem) (𝓡 .run)) 𝓜 𝓡 code.env #walk-store·stored stored-def.routine code.calls-walk-store·stored (stored-thm.met 𝓤 H 𝓜 𝓖 𝓡)))

@@ -1,7 +1,7 @@
 -- `bigendian::put_byte` meets its contract. One store is a run of one byte.
 -- Assumes nothing.
 use native.Mathlib.Omega.{arith}
-use mathlib.Core.Path.{refl, sym, _∙_}
+use mathlib.Core.Path.{sym}
 use Rattle.bigendian.specs.Bytes.{put}
 use Rattle.bigendian.proofs.Puts.{put-there, put-nowhere}
 use borrow.Author.Needs.{needs}

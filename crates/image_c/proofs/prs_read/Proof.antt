@@ -40,11 +40,13 @@ use Rattle.purse.specs.declared.Purse.{Purse}
 use Rattle.desk.specs.declared.Desk.{Desk}
 use Rattle.desk.specs.declared.Answered.{Answered}
 use Rattle.layout.specs.Calls.{heldRead}
-use Rattle.walk_table.specs.Lent.{held, copiedOf, storedOf}
+use Rattle.walk_table.specs.Lent.{held, copiedOf}
+use Rattle.walk_store.specs.Stored.{storedOf}
 use Rattle.walk_steps.proofs.Lent.{gone, opens-ref, shuts-ref, shares-slice, unshares-slice}
-use Rattle.walk_table.proofs.Structs.{Table, table-typed, dval, aval}
+use Rattle.walk_table.proofs.Structs.{Table, table-typed, dval}
 use Rattle.image_c.proofs.Whole.{read-lent}
-use Rattle.walk_table.proofs.Slices.{Shared, Lent, LentDesk, CopiedC, StoredC, calls-copied, calls-stored}
+use Rattle.walk_table.proofs.Slices.{Shared, CopiedC, calls-copied}
+use Rattle.walk_store.proofs.Slices.{Lent, LentDesk, StoredC, calls-stored}
 use Rattle.image_c.proofs.Calls.{ReadInC, calls-read-in}
 use Rattle.purse.proofs.Purse as T
 use Rattle.purse.proofs.Purse.Laws as T′
@@ -55,9 +57,9 @@ use Rattle.desk.proofs.Answered.Laws as R′
 use Rattle.walk_table.proofs.copied.Symbol as copied-def
 use Rattle.walk_table.proofs.copied.Symbol.{name as #walk-table·copied}
 use Rattle.walk_table.proofs.copied.Met as copied-thm
-use Rattle.walk_table.proofs.stored.Symbol as stored-def
-use Rattle.walk_table.proofs.stored.Symbol.{name as #walk-table·stored}
-use Rattle.walk_table.proofs.stored.Met as stored-thm
+use Rattle.walk_store.proofs.stored.Symbol as stored-def
+use Rattle.walk_store.proofs.stored.Symbol.{name as #walk-store·stored}
+use Rattle.walk_store.proofs.stored.Met as stored-thm
 use Rattle.image_c.proofs.steps.read_in.Symbol as read-in-def
 use Rattle.image_c.proofs.steps.read_in.Symbol.{name as #image-c·steps·read-in}
 use Rattle.image_c.proofs.steps.read_in.Met as read-in-thm
@@ -138,7 +140,7 @@ module _ {M : Type 1} (𝓤 : URA M) (H : Heap 𝓤) (A : Atoms 𝓤) (W : Given
       nothing ! $ move ! (3 ∷ 0 ∷ []) $ fjoin ! $ move ! (2 ∷ 0 ∷ []) $ fjoin ! $ move ! (1 ∷ 0 ∷ []) $ fjoin ! $ frame ! $ owned ! u8 (Is u8) (uint-makes 𝓤 H A W w8) n _ (refl, fits) $ done !
 
   module _ (C : Calls 𝓤 H) (Λ : Loops 𝓤 H) (fm : FmC 𝓤 H (W .laws) C) (known-copied : Triple 𝓤 (C #walk-table·copied) (CopiedC 𝓤 H A at-mem run)) (known : Triple 𝓤 (C #image-c·steps·read-in) (ReadInC 𝓤 H A at-mem run))
-      (known-stored : Triple 𝓤 (C #walk-table·stored) (StoredC 𝓤 H A at-mem run)) where
+      (known-stored : Triple 𝓤 (C #walk-store·stored) (StoredC 𝓤 H A at-mem run)) where
     module _ (l₀ l₁ l₂ l₃ l₄ l₅ l₆ l₇ l₈ l₉ l₁₀ l₁₁ : ℕ) where
       abbrev E : Env 𝓤 H
       E = (tyInt w8, l₀) ∷ (ref, l₁) ∷ (desk-ref, l₂) ∷ (list-ref, l₃) ∷ (R′.mir, l₄) ∷ (arr, l₅) ∷ (imm-ptr, l₆) ∷ (sliceTy imm-ptr, l₇) ∷ (D′.mir, l₈) ∷ (mut-ptr, l₉) ∷ (sliceTy mut-ptr, l₁₀) ∷ (desk-ptr, l₁₁) ∷ []
@@ -190,7 +192,7 @@ module _ {M : Type 1} (𝓤 : URA M) (H : Heap 𝓤) (A : Atoms 𝓤) (W : Given
         body l₀ l₁ l₂ l₃ l₄ l₅ l₆ l₇ l₈ l₉ l₁₀ l₁₁))))))))))))
 
 prs-read-meets : {M : Type 1} (𝓤 : URA M) (H : Heap 𝓤) (A : Atoms 𝓤) (W : Given 𝓤 H A) (at-mem : Memory → SProp 𝓤) (run : Routine → Fun 𝓤) (𝓣 : Tables 𝓤 H)
-    → Triple 𝓤 (𝓣 .C #walk-table·copied) (CopiedC 𝓤 H A at-mem run) → Triple 𝓤 (𝓣 .C #image-c·steps·read-in) (ReadInC 𝓤 H A at-mem run) → Triple 𝓤 (𝓣 .C #walk-table·stored) (StoredC 𝓤 H A at-mem run)
+    → Triple 𝓤 (𝓣 .C #walk-table·copied) (CopiedC 𝓤 H A at-mem run) → Triple 𝓤 (𝓣 .C #image-c·steps·read-in) (ReadInC 𝓤 H A at-mem run) → Triple 𝓤 (𝓣 .C #walk-store·stored) (StoredC 𝓤 H A at-mem run)
     → Meets 𝓤 H A f.signature (WpFn 𝓤 H (𝓣 .C) (𝓣 .Λ) code.function) (f.spec 𝓤 H A at-mem run)
 prs-read-meets 𝓤 H A W at-mem run 𝓣 known-copied known known-stored =
     walk-meets 𝓤 H A f.ended stayed W (goes-gave-slice 𝓤 H A W 3 0 tt (plain (λ _. T.the-row)), (goes-gave-ref 𝓤 H A W 3 1 tt (plain (λ _. D.the-row)), (goes-none-slice 𝓤 H A W 3 (2 ∷ []) tt (plain (λ _. u8)) yes, tt))) (f.clauses 𝓤 H A at-mem run)
@@ -208,4 +210,4 @@ prs-read-spec 𝓤 H 𝓜 𝓖 𝓡 =
     (prs-read-meets 𝓤 H (𝓖 .A) (givenOf 𝓤 H 𝓜 𝓖) (𝓜 .mem) (𝓡 .run) (tablesOf 𝓤 H 𝓜 (tables 𝓤 H 𝓜 𝓡 code.env))
     (cited 𝓤 H (CopiedC 𝓤 H (𝓖 .A) (𝓜 .mem) (𝓡 .run)) 𝓜 𝓡 code.env #walk-table·copied copied-def.routine code.calls-walk-table·copied (copied-thm.met 𝓤 H 𝓜 𝓖 𝓡))
     (cited 𝓤 H (ReadInC 𝓤 H (𝓖 .A) (𝓜 .mem) (𝓡 .run)) 𝓜 𝓡 code.env #image-c·steps·read-in read-in-def.routine code.calls-image-c·steps·read-in (read-in-thm.met 𝓤 H 𝓜 𝓖 𝓡))
-    (cited 𝓤 H (StoredC 𝓤 H (𝓖 .A) (𝓜 .mem) (𝓡 .run)) 𝓜 𝓡 code.env #walk-table·stored stored-def.routine code.calls-walk-table·stored (stored-thm.met 𝓤 H 𝓜 𝓖 𝓡)))
+    (cited 𝓤 H (StoredC 𝓤 H (𝓖 .A) (𝓜 .mem) (𝓡 .run)) 𝓜 𝓡 code.env #walk-store·stored stored-def.routine code.calls-walk-store·stored (stored-thm.met 𝓤 H 𝓜 𝓖 𝓡)))

@@ -1,7 +1,6 @@
 -- `trips::written_then_read` meets its contract. The first bytes of the buffer, as many as writing says, are the image, and it is read back.
 -- Assumes nothing.
-use mathlib.Core.Path.{_≡_, refl, sym, _∙_}
-use native.Mathlib.Omega.{arith}
+use mathlib.Core.Path.{_≡_, refl, sym}
 use lib.ListN.{length, length-map}
 use lib.Seq.{length-take-le}
 use Rattle.trips.proofs.Back.{back, not-back, within}

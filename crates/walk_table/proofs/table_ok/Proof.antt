@@ -57,7 +57,6 @@ use Rattle.walk_table.proofs.table_ok.Key.{name as #walk-table·table-o
 use Rattle.walk_table.proofs.table_ok as f
 use Rattle.walk_table.proofs.table_ok.Statement as stated
 use Rattle.walk_table.proofs.table_ok.Code as code
-use Rattle.walk_table.proofs.table_ok.Code.Mir as mir
 
 abbrev stayed : Stays (f.ended .signature .params) (f.ended .kept)
 stayed = (stay-none-slice (0 ∷ []) tt (plain (λ _. T.the-row)) yes, (stay-dropped (plain (λ _. D.the-row)) yes, tt))

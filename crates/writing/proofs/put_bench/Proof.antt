@@ -1,8 +1,8 @@
 -- `writing::put_bench` meets its contract. Head, purses, messages and entries are put one after the other; a well-formed bench's image is as long as its counts say.
 -- Assumes nothing.
-use mathlib.Core.Path.{_≡_, refl, _∙_}
+use mathlib.Core.Path.{refl, _∙_}
 use mathlib.Core.List.{append-assoc}
-use lib.ListN.{length, length-append}
+use lib.ListN.{length-append}
 use native.Mathlib.Omega.{arith}
 use Rattle.bigendian.specs.Bytes.{big}
 use Rattle.bigendian.proofs.Puts.{then-put, first-put}

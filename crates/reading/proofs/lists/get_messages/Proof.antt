@@ -1,7 +1,7 @@
 -- `reading::lists::get_messages` meets its contract. The invariant is `Filled`, the law of every loop that reads.
 -- Assumes nothing.
 use Prim.Native.Nat.{_≤_, _-_}
-use mathlib.Core.Path.{_≡_, ap, sym, _∙_}
+use mathlib.Core.Path.{ap, sym, _∙_}
 use lib.ListN.{replicate}
 use native.Mathlib.Omega.{arith}
 use Rattle.purse.specs.Details.{zeroMessage}

@@ -7,7 +7,7 @@ use Rattle.purse.specs.declared.Purse.{Purse}
 use Rattle.purse.proofs.Unique.{three}
 use Rattle.desk.specs.declared.Desk.{Desk}
 use Rattle.desk.specs.declared.Answered.{Answered}
-use Rattle.walk_table.specs.Lent.{storedOf}
+use Rattle.walk_store.specs.Stored.{storedOf}
 
 pub stored-one : (table : List Purse) (desk : Desk) (by : Answered) (r s : ℕ) (t u : List Purse) (d e : Desk)
     → (r ≡ storedOf table desk by .answer)

@@ -1,0 +1,5 @@
+pub mod Structs
+mod Calls
+pub mod Slices
+pub mod Whole
+pub mod Unique
