@@ -6,8 +6,9 @@ use mathlib.Core.Bool.{Bool, true, false, not, cond}
 use mathlib.Core.Logic.{⊎-elim}
 use mathlib.Core.List.{List, [], _∷_, _++_}
 use lib.ListN.{length, getD, take, drop}
-use lib.Seq.{split-at}
+use lib.Seq.{split-at, take-suc}
 use lib.Dec.{ltb, eqb}
+use native.Mathlib.Numerals.{add-one}
 use native.Mathlib.Omega.{arith}
 use borrow.Author.Tests.{ltb-true, ltb-false, eqb-true, eqb-false, lt-ltb, le-ltb, not-true}
 use Rattle.purse.specs.Lists.{all, among, distinct, keep, total, without, sumTo}
@@ -179,6 +180,46 @@ keep-append {A} f (x ∷ s) t =
     (λ (e : f x ≡ true). rw e (ap (λ (l : List A). x ∷ l) (keep-append f s t)))
     (λ (e : f x ≡ false). rw e (keep-append f s t))
     (which (f x))
+
+-- of those kept: what each member adds
+pub total-keep : {A : Type 0} (w : A → ℕ) (f : A → Bool) (l : List A) → total w (keep f l) ≡ total (λ (x : A). cond (f x) (w x) 0) l
+total-keep w f [] = refl
+total-keep w f (x ∷ l) =
+    ⊎-elim
+    (λ (e : f x ≡ true). rw e (ap (λ (n : ℕ). w x + n) (total-keep w f l)))
+    (λ (e : f x ≡ false). rw e (total-keep w f l ∙ omega arith))
+    (which (f x))
+
+-- of members of which f holds, the weights may be told another way
+pub total-each : {A : Type 0} (w v : A → ℕ) (f : A → Bool) (l : List A) → ((x : A) → f x ≡ true → w x ≡ v x) → all f l ≡ true → total w l ≡ total v l
+total-each w v f [] h a = refl
+total-each w v f (x ∷ l) h a = omega (arith, h x (and-l (f x) (all f l) a), total-each w v f l h (and-r (f x) (all f l) a))
+
+-- one place more
+pub total-next : {A : Type 0} (w : A → ℕ) (l : List A) (i : ℕ) (z : A) → i < length l → total w (take (i + 1) l) ≡ total w (take i l) + w (getD l i z)
+total-next w l i z h = rw (add-one i, take-suc l i z h) (omega (arith, total-append w (take i l) (getD l i z ∷ [])))
+
+-- the number of members
+pub total-ones : {A : Type 0} (l : List A) → total (λ (x : A). 1) l ≡ length l
+total-ones [] = refl
+total-ones (x ∷ l) = omega (arith, total-ones l)
+
+-- the lists at 0 .. n - 1, one behind the other
+abbrev pub appendTo : {A : Type 0} → ℕ → (ℕ → List A) → List A
+appendTo zero f = []
+appendTo (suc n) f = appendTo n f ++ f n
+
+pub total-append-to : {A : Type 0} (w : A → ℕ) (n : ℕ) (f : ℕ → List A) → total w (appendTo n f) ≡ sumTo n (λ (p : ℕ). total w (f p))
+total-append-to w zero f = refl
+total-append-to w (suc n) f = omega (arith, total-append w (appendTo n f) (f n), total-append-to w n f)
+
+pub times-append-to : {A : Type 0} (same : A → A → Bool) (x : A) (n : ℕ) (f : ℕ → List A) → times same x (appendTo n f) ≡ sumTo n (λ (p : ℕ). times same x (f p))
+times-append-to same x zero f = refl
+times-append-to same x (suc n) f = omega (arith, times-append same x (appendTo n f) (f n), times-append-to same x n f)
+
+pub sum-le : (n : ℕ) (f g : ℕ → ℕ) → ((p : ℕ) → p < n → f p ≤ g p) → sumTo n f ≤ sumTo n g
+sum-le zero f g h = omega arith
+sum-le (suc n) f g h = omega (arith, sum-le n f g (λ (p : ℕ) (l : p < n). h p (omega arith)), h n (omega arith))
 
 pub sum-same : (n : ℕ) (f g : ℕ → ℕ) → ((p : ℕ) → p < n → f p ≡ g p) → sumTo n f ≡ sumTo n g
 sum-same zero f g h = refl

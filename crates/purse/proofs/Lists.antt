@@ -33,6 +33,11 @@ every-all f (suc n) h = and-i (every-all f n (λ i g. h i (omega arith))) (h n (
 pub unmapped : (X Y : Type 0) (f : X → Y) (l : List X) (n : ℕ) → length (map f l) ≡ n → length l ≡ n
 unmapped X Y f l n e = sym (length-map l f) ∙ e
 
+pub take-map : {A B : Type 0} (f : A → B) (n : ℕ) (l : List A) → take n (map f l) ≡ map f (take n l)
+take-map f zero l = refl
+take-map f (suc n) [] = refl
+take-map {A} {B} f (suc n) (x ∷ l) = ap (λ (r : List B). f x ∷ r) (take-map f n l)
+
 module _ {A : Type 0} where
   -- at a place of the list it is no matter what stands past its end
   pub at-any : (l : List A) (i : ℕ) (y z : A) → i < length l → getD l i y ≡ getD l i z

@@ -139,7 +139,8 @@ pub record Worked : Type 0 where
   pub crossed-balances : balances (run start crossed) ≡ 700 ∷ 500 ∷ []
   pub crossed-arrived : amounts (arrived start crossed) ≡ 300 ∷ []
   pub crossed-matched : amounts (matched (run start crossed) 0) ≡ []
-  pub crossed-claims : claims (run start collected) ≡ 0
+  pub crossed-claims : claims (run start crossed) ≡ 0
+  pub crossed-archived : claims (run start collected) ≡ 0
 
 pub worked : Worked
 unfolding sameDetails legal named asPayer asPayee entryOk absent idleOk busyOk placeOk logOk wellFormed startNumber fromNumber toNumber expected deliverNumber abortNumber collectNumber startFrom startTo deliverTo abortBy collectBy sameMessage countsOk inTable purseOk messageOk archiveOk onceOk clearOk tableOk decoded numberAt acting step claims movedBy
@@ -167,4 +168,5 @@ worked =
       crossed-arrived = refl;
       crossed-matched = refl;
       crossed-claims = refl;
+      crossed-archived = refl;
     }

@@ -26,17 +26,18 @@ use Rattle.rules.specs.Table.{tableOk}
 use Rattle.rules.specs.Events.{decoded}
 use Rattle.rules.specs.Steps.{step}
 use Rattle.rules.specs.Run.{openingNumber, opened, run, answers}
-use Rattle.rules.specs.Paid.{delivers, movedBy, moved, amountOf, matched, paidOut, takenIn, abortOf}
-use Rattle.rules.specs.Laid.{laid, seen, heldOk, heldStep, heldRun, heldAnswers, heldOpening}
+use Rattle.rules.specs.Paid.{delivers, movedBy, moved, amountOf, matched, claims, paidOut, takenIn, abortOf}
+use Rattle.rules.specs.Laid.{laid, seen, isZeroPurse, heldOk, heldStep, heldRun, heldAnswers, heldOpening, heldClaims}
 use Rattle.rules.specs.HeldPaid.{heldPurse, heldBalance, heldMoved, heldPaid, heldArrived}
 use Rattle.rules.specs.Orders.{heldOrder}
 use Rattle.rules.proofs.Facts.{is-table}
-use Rattle.rules.proofs.Places.{seen-laid, laid-seen, seen-ok, held-laid, step-laid}
+use Rattle.rules.proofs.Places.{places-used, seen-laid, obeys, laid-seen, seen-ok, held-laid, step-laid}
 use Rattle.rules.proofs.Kept.{never, keep-step, keep-run}
 use Rattle.rules.proofs.Orders.{event-order, never-two}
 use Rattle.rules.proofs.Refusals.{refused-same, others-same}
 use Rattle.rules.proofs.Opened.{opened-ok}
-use Rattle.rules.proofs.Safe.{sum-safe, arrived-paid, paid-once, arrived-once, stopped-safe, stops-done}
+use Rattle.rules.proofs.Claims.{claims-most}
+use Rattle.rules.proofs.Safe.{sum-safe, arrived-paid, paid-once, arrived-once, stopped-safe, stopped-owed, stops-done}
 
 -- a run on places is the run on lists
 module _ (b : Bench) (l : List ℕ) (w : tableOk b ≡ true) where
@@ -174,3 +175,29 @@ held-stopped-safe bs es ps ok every p l =
     let c : Bench = run (opened bs) (es ++ map abortOf ps) in
     rw (ran bs (es ++ map abortOf ps) ok, moved-laid 2 (opened bs) (es ++ map abortOf ps) (opened-ok bs ok))
     (omega (arith, stopped-safe bs es ps ok every p l, balance-laid c p, balance-laid (opened bs) p, ap (λ (b : Bench). total amountOf (matched b p)) (seen-laid c)))
+
+-- the claims figure of any table and desk
+module _ (h : Held) where
+  pub held-matched : heldOk h ≡ true → heldClaims h .claims ≡ sumTo (h .desk .purses) (λ (p : ℕ). total amountOf (matched (seen h) p))
+  unfolding heldClaims claims
+  held-matched w =
+      rw w
+      (ap (λ (n : ℕ). sumTo n (λ (p : ℕ). total amountOf (matched (seen h) p))) (places-used isZeroPurse 32 (h .desk .purses) (h .table) (obeys h w .purses)))
+
+  pub held-claims-most : heldClaims h .claims ≤ 1280000000
+  unfolding heldClaims
+  held-claims-most =
+      ⊎-elim (λ (w : heldOk h ≡ true). rw w (claims-most (seen h) (seen-ok h w))) (λ (w : heldOk h ≡ false). rw w (omega arith)) (which (heldOk h))
+
+pub held-stopped-owed : (bs : List ℕ) (es : List (List ℕ)) (ps : List ℕ) → openingNumber bs ≡ 0 → ((p : ℕ) → p < length bs → among eqb p ps ≡ true) → sumTo (length bs) (heldBalance (heldRun (laid (opened bs)) (es ++ map abortOf ps))) + heldClaims (heldRun (laid (opened bs)) (es ++ map abortOf ps)) .claims ≡ sumTo (length bs) (heldBalance (laid (opened bs)))
+unfolding heldClaims
+held-stopped-owed bs es ps ok every =
+    let c : Bench = run (opened bs) (es ++ map abortOf ps) in
+    rw (ran bs (es ++ map abortOf ps) ok, held-laid c (keep-run (opened bs) (es ++ map abortOf ps) (opened-ok bs ok)))
+    (omega (
+      arith,
+      stopped-owed bs es ps ok every,
+      ap claims (seen-laid c),
+      sum-same (length bs) (heldBalance (laid c)) (balanceAt c) (λ (p : ℕ) (l : p < length bs). balance-laid c p),
+      sum-same (length bs) (heldBalance (laid (opened bs))) (balanceAt (opened bs)) (λ (p : ℕ) (l : p < length bs). balance-laid (opened bs) p),
+    ))

@@ -3,7 +3,7 @@
 -- specs/; each proof is a citation.
 -- Assumes nothing.
 use Prim.Native.Nat.{ℕ, _+_, _≤_, _<_}
-use mathlib.Core.Path.{_≡_}
+use mathlib.Core.Path.{_≡_, refl}
 use mathlib.Core.Bool.{true}
 use mathlib.Core.List.{List, _++_, map}
 use lib.ListN.{length, getD}
@@ -17,15 +17,16 @@ use Rattle.rules.specs.Bench.{Bench, purseAt, balanceAt}
 use Rattle.rules.specs.Table.{tableOk}
 use Rattle.rules.specs.Steps.{step}
 use Rattle.rules.specs.Run.{openingNumber, opened, run, answers}
-use Rattle.rules.specs.Paid.{paid, arrived, amountOf, paidOut, takenIn, matched, abortOf}
-use Rattle.rules.specs.Laid.{laid, seen, heldOk, heldStep, heldRun, heldAnswers, heldOpening}
+use Rattle.rules.specs.Paid.{paid, arrived, amountOf, paidOut, takenIn, matched, claims, abortOf}
+use Rattle.rules.specs.Laid.{laid, seen, heldOk, heldStep, heldRun, heldAnswers, heldOpening, heldClaims}
 use Rattle.rules.specs.HeldPaid.{heldPurse, heldBalance, heldPaid, heldArrived}
 use Rattle.rules.specs.Orders.{order, heldOrder}
 use Rattle.rules.proofs.Kept.{keep-step}
 use Rattle.rules.proofs.Orders.{answer-order}
 use Rattle.rules.proofs.Refusals.{refused-same, others-same}
 use Rattle.rules.proofs.Opened.{opened-ok, opened-never-two}
-use Rattle.rules.proofs.Safe.{sum-safe, arrived-paid, paid-once, arrived-once, stopped-safe, stops-done}
+use Rattle.rules.proofs.Claims.{matched-once, pairs-most, claims-most}
+use Rattle.rules.proofs.Safe.{sum-safe, arrived-paid, paid-once, arrived-once, stopped-safe, stopped-owed, stops-done}
 use Rattle.rules.proofs.Carried as lent
 
 -- any bench, any event
@@ -45,6 +46,22 @@ module _ (b : Bench) (event : List ℕ) where
   -- no purse changes but the one that the event's second byte names
   pub others-untouched : (p : ℕ) → (p ≡ getD event 1 0 → ⊥) → purseAt (step b event .bench) p ≡ purseAt b p
   others-untouched = others-same b event
+
+-- the claims figure of any table that obeys the rules: "every matched pair, wherever the two entries stand" (02, A1), each counted once; at
+-- most 256 pairs, so that four bytes hold the figure
+module _ (b : Bench) where
+  pub claims-are-the-matched-pairs : claims b ≡ sumTo (length (b .purses)) (λ (p : ℕ). total amountOf (matched b p))
+  unfolding claims
+  claims-are-the-matched-pairs = refl
+
+  pub each-pair-once : tableOk b ≡ true → (p : ℕ) → p < length (b .purses) → distinct sameDetails (matched b p) ≡ true
+  each-pair-once = matched-once b
+
+  pub few-pairs : tableOk b ≡ true → sumTo (length (b .purses)) (λ (p : ℕ). length (matched b p)) ≤ 256
+  few-pairs = pairs-most b
+
+  pub claims-fit : tableOk b ≡ true → claims b ≤ 1280000000
+  claims-fit = claims-most b
 
 -- an opened bench, after a list of events
 module _ (balances : List ℕ) (events : List (List ℕ)) (opens : openingNumber balances ≡ 0) where
@@ -88,6 +105,10 @@ module _ (balances : List ℕ) (events : List (List ℕ)) (opens : openingNumber
     pub stopped-balances : (p : ℕ) → p < length balances → balanceAt end p + total amountOf (matched end p) + paidOut p (arrived start all-events) ≡ balanceAt start p + takenIn p (arrived start all-events)
     stopped-balances = stopped-safe balances events names opens every
 
+    -- and, summed over all purses: the claims figure is what the balances lack of the opening sum
+    pub stopped-claims : sumTo (length balances) (balanceAt end) + claims end ≡ sumTo (length balances) (balanceAt start)
+    stopped-claims = stopped-owed balances events names opens every
+
 -- the same of the lent table and the desk: any, and any event
 module _ (h : Held) (event : List ℕ) where
   pub lent-step-keeps-the-rules : heldOk h ≡ true → heldOk (heldStep h event .held) ≡ true
@@ -101,6 +122,13 @@ module _ (h : Held) (event : List ℕ) where
 
   pub lent-others-untouched : (p : ℕ) → (p ≡ getD event 1 0 → ⊥) → heldPurse (heldStep h event .held) p ≡ heldPurse h p
   lent-others-untouched = lent.held-others-same h event
+
+module _ (h : Held) where
+  pub lent-claims-are-the-matched-pairs : heldOk h ≡ true → heldClaims h .claims ≡ sumTo (h .desk .purses) (λ (p : ℕ). total amountOf (matched (seen h) p))
+  lent-claims-are-the-matched-pairs = lent.held-matched h
+
+  pub lent-claims-fit : heldClaims h .claims ≤ 1280000000
+  lent-claims-fit = lent.held-claims-most h
 
 -- whatever table and desk were lent to the opening, where it answers 0
 module _ (before : Held) (balances : List ℕ) (events : List (List ℕ)) (opens : heldOpening before balances .answer ≡ 0) where
@@ -144,3 +172,6 @@ module _ (before : Held) (balances : List ℕ) (events : List (List ℕ)) (opens
 
     pub lent-stopped-balances : (p : ℕ) → p < length balances → heldBalance lent-end p + total amountOf (matched (seen lent-end) p) + paidOut p (heldArrived lent-start lent-all-events) ≡ heldBalance lent-start p + takenIn p (heldArrived lent-start lent-all-events)
     lent-stopped-balances = rw starts-laid (lent.held-stopped-safe balances events names opening every)
+
+    pub lent-stopped-claims : sumTo (length balances) (heldBalance lent-end) + heldClaims lent-end .claims ≡ sumTo (length balances) (heldBalance lent-start)
+    lent-stopped-claims = rw starts-laid (lent.held-stopped-owed balances events names opening every)

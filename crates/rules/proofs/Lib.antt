@@ -15,6 +15,7 @@ pub mod Refusals
 pub mod Opened
 pub mod History
 pub mod Stopped
+pub mod Claims
 pub mod Safe
 pub mod Carried
 pub mod Demands

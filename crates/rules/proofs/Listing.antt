@@ -3,7 +3,7 @@
 use Prim.Native.Nat.{ℕ}
 use mathlib.Core.Path.{_≡_, refl}
 use mathlib.Core.List.{List, [], _∷_, map}
-use lib.ListN.{length}
+use lib.ListN.{length, take}
 use Rattle.bigendian.specs.Bytes.{numberAt}
 use Rattle.purse.specs.declared.Purse.{Purse}
 use Rattle.purse.specs.Details.{sameDetails, sameMessage, legal, named, asPayer, asPayee, entryOk, absent}
@@ -50,10 +50,14 @@ pub record Listing : Type 0 where
   pub answered : answers start events ≡ 0 ∷ 0 ∷ 0 ∷ 0 ∷ 13 ∷ 0 ∷ 0 ∷ 0 ∷ []
   pub lines : map line (run start events .purses) ≡ (700 ∷ 2 ∷ 0 ∷ 0 ∷ []) ∷ (200 ∷ 2 ∷ 0 ∷ 0 ∷ []) ∷ []
   pub last : lastLine (run start events) ≡ 2 ∷ 2 ∷ 300 ∷ []
+  -- "the same input cut after event 6 now ends with claims 300" (02, A1)
+  pub cut : lastLine (run start (take 6 events)) ≡ 2 ∷ 0 ∷ 300 ∷ []
+  -- and after event 7, the payer's entry archived and the payee's still on its card
+  pub half : lastLine (run start (take 7 events)) ≡ 2 ∷ 1 ∷ 300 ∷ []
 
 pub listing : Listing
 unfolding sameDetails legal named asPayer asPayee entryOk absent idleOk busyOk placeOk logOk wellFormed startNumber fromNumber toNumber expected deliverNumber abortNumber collectNumber startFrom startTo deliverTo abortBy collectBy sameMessage countsOk inTable purseOk messageOk archiveOk onceOk clearOk tableOk decoded numberAt acting step openingNumber claims
-listing = record { opens = refl; answered = refl; lines = refl; last = refl }
+listing = record { opens = refl; answered = refl; lines = refl; last = refl; cut = refl; half = refl }
 
 -- the table and the desk after the last event
 abbrev end : Held

@@ -1,6 +1,7 @@
 -- Demand 3, of every bench that was opened by the rules and of every list of events.
 -- The sum of the balances never exceeds the opening sum; nothing arrives unpaid or twice; and once every purse has been stopped,
--- each purse has its opening balance, less what it paid that arrived, less what its matched log pairs record, plus what arrived at it.
+-- each purse has its opening balance, less what it paid that arrived, less what its matched log pairs record, plus what arrived at it. So all
+-- balances and the claims figure are then the opening sum.
 -- Assumes nothing.
 use Prim.Native.Nat.{ℕ, zero, suc, _+_, _≤_, _<_}
 use mathlib.Core.Path.{_≡_, refl, _∙_, sym, ap}
@@ -20,7 +21,7 @@ use Rattle.purse.proofs.Count.{bit, times-append, times-keep, times-among, amon
 use Rattle.rules.specs.Bench.{Bench, purseAt, kept, archivedBy, loggedBy, isAt, balanceAt}
 use Rattle.rules.specs.Steps.{step}
 use Rattle.rules.specs.Run.{opened, openedAt, openingNumber, run, answers}
-use Rattle.rules.specs.Paid.{amountOf, paid, arrived, matchedWith, matched, abortOf, paidOut, takenIn}
+use Rattle.rules.specs.Paid.{amountOf, paid, arrived, matchedWith, matched, claims, abortOf, paidOut, takenIn}
 use Rattle.rules.proofs.Facts.{details-equal, details-same, countD}
 use Rattle.rules.proofs.Opened.{opened-ok}
 use Rattle.rules.proofs.History.{epr, epa, epv, payerLog, payeeLog, History, history-run}
@@ -55,18 +56,39 @@ opened-history bs =
 
 -- from a history: the money in the purses
 module _ (opening : ℕ → ℕ) (b : Bench) (P A : List Details) (h : History opening b P A) where
-  in-balance : sumTo (length (b .purses)) (balanceAt b) + total amountOf P ≡ sumTo (length (b .purses)) opening + total amountOf A
+  abbrev n : ℕ
+  n = length (b .purses)
+
+  -- of payments that were paid, each has one payer and one payee in the table
+  by-payers : (l : List Details) → ((d : Details) → countD d l ≤ countD d P) → sumTo n (λ (p : ℕ). paidOut p l) ≡ total amountOf l
+  by-payers l k =
+      sum-shares amountOf (λ (d : Details). d .payer .0) n l
+      (all-is sameDetails details-equal details-same (λ (d : Details). ltb (d .payer .0) n) l (λ (d : Details) (c : 1 ≤ countD d l). lt-ltb _ _ (h .placed d (omega (arith, k d)) .payer)))
+
+  by-payees : (l : List Details) → ((d : Details) → countD d l ≤ countD d P) → sumTo n (λ (p : ℕ). takenIn p l) ≡ total amountOf l
+  by-payees l k =
+      sum-shares amountOf (λ (d : Details). d .payee .0) n l
+      (all-is sameDetails details-equal details-same (λ (d : Details). ltb (d .payee .0) n) l (λ (d : Details) (c : 1 ≤ countD d l). lt-ltb _ _ (h .placed d (omega (arith, k d)) .payee)))
+
+  paid-in : (d : Details) → countD d P ≤ countD d P
+  paid-in d = omega arith
+
+  arrived-in : (d : Details) → countD d A ≤ countD d P
+  arrived-in d = h .counts d .within
+
+  in-balance : sumTo n (balanceAt b) + total amountOf P ≡ sumTo n opening + total amountOf A
   in-balance =
-      let n : ℕ = length (b .purses) in
-      let pp : all (λ (d : Details). ltb (d .payer .0) n) P ≡ true = all-is sameDetails details-equal details-same (λ (d : Details). ltb (d .payer .0) n) P (λ (d : Details) (l : 1 ≤ countD d P). lt-ltb _ _ (h .placed d l .payer)) in
-      let aa : all (λ (d : Details). ltb (d .payee .0) n) A ≡ true = all-is sameDetails details-equal details-same (λ (d : Details). ltb (d .payee .0) n) A (λ (d : Details) (l : 1 ≤ countD d A). lt-ltb _ _ (h .placed d (omega (arith, h .counts d .within)) .payee)) in
-      let sp : sumTo n (λ (p : ℕ). paidOut p P) ≡ total amountOf P = sum-shares amountOf (λ (d : Details). d .payer .0) n P pp in
-      let sa : sumTo n (λ (p : ℕ). takenIn p A) ≡ total amountOf A = sum-shares amountOf (λ (d : Details). d .payee .0) n A aa in
-      let s1 : sumTo n (λ (p : ℕ). balanceAt b p + paidOut p P) ≡ sumTo n (λ (p : ℕ). opening p + takenIn p A) = sum-same n (λ (p : ℕ). balanceAt b p + paidOut p P) (λ (p : ℕ). opening p + takenIn p A) (h .money) in
-      omega (arith, sum-add n (balanceAt b) (λ (p : ℕ). paidOut p P), sum-add n opening (λ (p : ℕ). takenIn p A))
+      omega (
+        arith,
+        by-payers P paid-in,
+        by-payees A arrived-in,
+        sum-same n (λ (p : ℕ). balanceAt b p + paidOut p P) (λ (p : ℕ). opening p + takenIn p A) (h .money),
+        sum-add n (balanceAt b) (λ (p : ℕ). paidOut p P),
+        sum-add n opening (λ (p : ℕ). takenIn p A),
+      )
 
   arrived-le : total amountOf A ≤ total amountOf P
-  arrived-le = total-le sameDetails details-equal details-same amountOf A P (λ (d : Details). h .counts d .within)
+  arrived-le = total-le sameDetails details-equal details-same amountOf A P arrived-in
 
   -- every purse idle: what a purse paid is what arrived of it and what its matched pairs record
   module _ (idle : (k : ℕ) → purseAt b k .status ≡ 0) where
@@ -106,6 +128,21 @@ module _ (opening : ℕ → ℕ) (b : Bench) (P A : List Details) (h : History o
         let e : total amountOf (matched b p ++ keep (λ (d : Details). eqb (d .payer .0) p) A) ≡ paidOut p P = total-eq sameDetails details-equal details-same amountOf (matched b p ++ keep (λ (d : Details). eqb (d .payer .0) p) A) (keep (λ (d : Details). eqb (d .payer .0) p) P) (matched-count p) in
         omega (arith, h .money p l, total-append amountOf (matched b p) (keep (λ (d : Details). eqb (d .payer .0) p) A))
 
+    -- summed over the purses: what arrived went out of one balance and into one
+    owed : sumTo n (balanceAt b) + claims b ≡ sumTo n opening
+    unfolding claims
+    owed =
+        let m : ℕ → ℕ = λ (p : ℕ). total amountOf (matched b p) in
+        omega (
+          arith,
+          sum-same n (λ (p : ℕ). balanceAt b p + m p + paidOut p A) (λ (p : ℕ). opening p + takenIn p A) settled,
+          sum-add n (λ (p : ℕ). balanceAt b p + m p) (λ (p : ℕ). paidOut p A),
+          sum-add n (balanceAt b) m,
+          sum-add n opening (λ (p : ℕ). takenIn p A),
+          by-payers A arrived-in,
+          by-payees A arrived-in,
+        )
+
 -- of every bench opened by the rules, after every list of events
 module _ (bs : List ℕ) (es : List (List ℕ)) (ok : openingNumber bs ≡ 0) where
   the-history : History (balanceAt (opened bs)) (run (opened bs) es) (paid (opened bs) es) (arrived (opened bs) es)
@@ -135,29 +172,38 @@ module _ (bs : List ℕ) (es : List (List ℕ)) (ok : openingNumber bs ≡ 0) wh
   pub arrived-once : distinct sameDetails (arrived (opened bs) es) ≡ true
   arrived-once = distinct-is sameDetails details-equal details-same (arrived (opened bs) es) (λ (d : Details). omega (arith, the-history .counts d .due))
 
-  -- every purse idle: each purse's balance
-  pub idle-safe : ((k : ℕ) → k < length bs → purseAt (run (opened bs) es) k .status ≡ 0) → (p : ℕ) → p < length bs → balanceAt (run (opened bs) es) p + total amountOf (matched (run (opened bs) es) p) + paidOut p (arrived (opened bs) es) ≡ balanceAt (opened bs) p + takenIn p (arrived (opened bs) es)
-  idle-safe idle p l =
-      settled (balanceAt (opened bs)) (run (opened bs) es) (paid (opened bs) es) (arrived (opened bs) es) the-history
-      (λ (k : ℕ).
-      ⊎-elim
-      (λ (e : ltb k (length bs) ≡ true). idle k (ltb-true _ _ e))
-      (λ (e : ltb k (length bs) ≡ false). beyond (run (opened bs) es) k (omega (arith, the-length, ltb-false k (length bs) e)))
-      (which (ltb k (length bs))))
-      p (omega (arith, the-length))
+  -- every purse idle: each purse's balance, and all of them
+  module _ (idle : (k : ℕ) → k < length bs → purseAt (run (opened bs) es) k .status ≡ 0) where
+    all-idle : (k : ℕ) → purseAt (run (opened bs) es) k .status ≡ 0
+    all-idle k =
+        ⊎-elim
+        (λ (e : ltb k (length bs) ≡ true). idle k (ltb-true _ _ e))
+        (λ (e : ltb k (length bs) ≡ false). beyond (run (opened bs) es) k (omega (arith, the-length, ltb-false k (length bs) e)))
+        (which (ltb k (length bs)))
+
+    pub idle-safe : (p : ℕ) → p < length bs → balanceAt (run (opened bs) es) p + total amountOf (matched (run (opened bs) es) p) + paidOut p (arrived (opened bs) es) ≡ balanceAt (opened bs) p + takenIn p (arrived (opened bs) es)
+    idle-safe p l =
+        settled (balanceAt (opened bs)) (run (opened bs) es) (paid (opened bs) es) (arrived (opened bs) es) the-history all-idle p (omega (arith, the-length))
+
+    pub idle-owed : sumTo (length bs) (balanceAt (run (opened bs) es)) + claims (run (opened bs) es) ≡ sumTo (length bs) (balanceAt (opened bs))
+    idle-owed = rw the-length at (owed (balanceAt (opened bs)) (run (opened bs) es) (paid (opened bs) es) (arrived (opened bs) es) the-history all-idle)
 
 run-append : (b : Bench) (s t : List (List ℕ)) → run b (s ++ t) ≡ run (run b s) t
 run-append b [] t = refl
 run-append b (l ∷ s) t = run-append (step b l .bench) s t
 
 -- after an abort event to every purse, in any order
-pub stopped-safe : (bs : List ℕ) (es : List (List ℕ)) (ps : List ℕ) → openingNumber bs ≡ 0 → ((p : ℕ) → p < length bs → among eqb p ps ≡ true) → (p : ℕ) → p < length bs → balanceAt (run (opened bs) (es ++ map abortOf ps)) p + total amountOf (matched (run (opened bs) (es ++ map abortOf ps)) p) + paidOut p (arrived (opened bs) (es ++ map abortOf ps)) ≡ balanceAt (opened bs) p + takenIn p (arrived (opened bs) (es ++ map abortOf ps))
-stopped-safe bs es ps ok every p l =
-    idle-safe bs (es ++ map abortOf ps) ok
-    (λ (k : ℕ) (j : k < length bs).
-    rw (run-append (opened bs) es (map abortOf ps))
-    (aborts-idle (run (opened bs) es) ps (keep-run (opened bs) es (opened-ok bs ok)) k (omega (arith, the-length bs es ok)) (inl (every k j))))
-    p l
+module _ (bs : List ℕ) (es : List (List ℕ)) (ps : List ℕ) (ok : openingNumber bs ≡ 0) (every : (p : ℕ) → p < length bs → among eqb p ps ≡ true) where
+  stopped-idle : (k : ℕ) → k < length bs → purseAt (run (opened bs) (es ++ map abortOf ps)) k .status ≡ 0
+  stopped-idle k j =
+      rw (run-append (opened bs) es (map abortOf ps))
+      (aborts-idle (run (opened bs) es) ps (keep-run (opened bs) es (opened-ok bs ok)) k (omega (arith, the-length bs es ok)) (inl (every k j)))
+
+  pub stopped-safe : (p : ℕ) → p < length bs → balanceAt (run (opened bs) (es ++ map abortOf ps)) p + total amountOf (matched (run (opened bs) (es ++ map abortOf ps)) p) + paidOut p (arrived (opened bs) (es ++ map abortOf ps)) ≡ balanceAt (opened bs) p + takenIn p (arrived (opened bs) (es ++ map abortOf ps))
+  stopped-safe = idle-safe bs (es ++ map abortOf ps) ok stopped-idle
+
+  pub stopped-owed : sumTo (length bs) (balanceAt (run (opened bs) (es ++ map abortOf ps))) + claims (run (opened bs) (es ++ map abortOf ps)) ≡ sumTo (length bs) (balanceAt (opened bs))
+  stopped-owed = idle-owed bs (es ++ map abortOf ps) ok stopped-idle
 
 -- each of those aborts is answered 0
 pub stops-done : (bs : List ℕ) (es : List (List ℕ)) (ps : List ℕ) → openingNumber bs ≡ 0 → all (λ (p : ℕ). ltb p (length bs)) ps ≡ true → answers (run (opened bs) es) (map abortOf ps) ≡ map (λ (p : ℕ). 0) ps

@@ -5,11 +5,11 @@ use mathlib.Core.List.{List, [], _∷_, _++_}
 use lib.ListN.{length}
 use lib.Dec.{leb, eqb}
 use Rattle.purse.specs.declared.Details.{Details}
-use Rattle.purse.specs.Lists.{among, keep, total, sumTo}
-use Rattle.purse.specs.Details.{request, value, sameDetails}
+use Rattle.purse.specs.Lists.{keep, total, sumTo}
+use Rattle.purse.specs.Details.{request, value}
 use Rattle.rules.specs.declared.Event.{Event}
 use Rattle.rules.specs.declared.Event.the-variants.{Malformed, StartFrom, StartTo, Deliver, Abort, Lose, Collect}
-use Rattle.rules.specs.Bench.{Bench, messageAt, archivedBy, loggedBy, hasLogged}
+use Rattle.rules.specs.Bench.{Bench, messageAt, loggedBy, hasLogged}
 use Rattle.rules.specs.Events.{decoded}
 use Rattle.rules.specs.Steps.{step}
 
@@ -57,13 +57,9 @@ matchedWith b p d = eqb (d .payer .0) p && hasLogged b (d .payee .0) d
 abbrev pub matched : Bench → ℕ → List Details
 matched b p = keep (matchedWith b p) (loggedBy b p)
 
--- "Claims [..]: the sum over pairs with both entries in the archive"
-abbrev pub claimedWith : Bench → ℕ → Details → Bool
-claimedWith b p d = eqb (d .payer .0) p && among sameDetails d (archivedBy (d .payee .0) (b .archive))
-
+-- Claims, the figure printed as owed to payers: the sum over every matched pair, "wherever the two entries stand" (02, A1)
 unfoldable pub claims : Bench → ℕ
-claims b =
-    sumTo (length (b .purses)) (λ (p : ℕ). total amountOf (keep (claimedWith b p) (archivedBy p (b .archive))))
+claims b = sumTo (length (b .purses)) (λ (p : ℕ). total amountOf (matched b p))
 
 -- "To stop a purse is to give it an abort event"
 abbrev pub abortOf : ℕ → List ℕ

@@ -12,7 +12,7 @@ use Rattle.purse.proofs.Count.{turn}
 use Rattle.desk.specs.declared.Entry.{Entry}
 use Rattle.desk.specs.Desk.{sameEntry}
 use Rattle.rules.proofs.Facts.{details-equal, details-same, message-equal, message-same, entry-equal, entry-same}
-use Rattle.table_records.specs.Records.{when, keyOf}
+use Rattle.table_records.specs.Records.{when, messageKey, entryKey}
 
 pub turn-number : (a b : ℕ) → eqb a b ≡ eqb b a
 turn-number = turn eqb eqb-true (λ (n : ℕ). eq-eqb n n refl)
@@ -35,14 +35,8 @@ when-e true b h e = h
 when-e false b h e = cc
 
 -- what is the same has the same key
-abbrev pub messageKey : Message → ℕ
-messageKey m = keyOf (m .kind) (m .details)
-
 pub message-key : (m k : Message) → sameMessage m k ≡ true → messageKey m ≡ messageKey k
 message-key m k e = ap messageKey (message-equal m k e)
-
-abbrev pub entryKey : Entry → ℕ
-entryKey e = keyOf (e .by .0) (e .details)
 
 pub entry-key : (e f : Entry) → sameEntry e f ≡ true → entryKey e ≡ entryKey f
 entry-key e f k = ap entryKey (entry-equal e f k)

@@ -8,6 +8,9 @@ use purse::Details;
 use purse::Name;
 use purse::Purse;
 ghost use mathlib.Core.Path.{_≡_};
+ghost use Rattle.purse.specs.Lists.{among};
+ghost use Rattle.purse.specs.Details.{sameDetails};
+ghost use Rattle.rules.specs.Bench.{kept};
 ghost use Rattle.rules.specs.Laid.{isZeroPurse};
 ghost use Rattle.table_records.specs.Records.{namesOk, holds, recordsOk};
 
@@ -26,9 +29,9 @@ pub(crate) fn names_ok(p: Purse, purses: u8) -> bool
     ((p.status == 0) | is_within(p.details, purses)) & ok
 }
 
-// Whether the details are running or in the log.
-pub fn holds(p: Purse, d: Details) -> bool
-    ensures { λ r. ⌜ r ≡ holds p d ⌝ }
+// Whether the details are in the log.
+pub fn in_log(p: Purse, d: Details) -> bool
+    ensures { λ r. ⌜ r ≡ among sameDetails d (kept p) ⌝ }
 {
     let count = at_most(p.logged as usize, 8);
     let mut hit = false;
@@ -38,7 +41,14 @@ pub fn holds(p: Purse, d: Details) -> bool
         hit = hit | d.same(e);
         i += 1;
     }
-    (!(p.status == 0) & d.same(p.details)) | hit
+    hit
+}
+
+// Whether the details are running or in the log.
+pub fn holds(p: Purse, d: Details) -> bool
+    ensures { λ r. ⌜ r ≡ holds p d ⌝ }
+{
+    (!(p.status == 0) & d.same(p.details)) | in_log(p, d)
 }
 
 // Whether each place of the record is zero.

@@ -12,8 +12,8 @@ use borrow.Author.Needs.{needs}
 use Rattle.purse.specs.Lists.{all, among, distinct}
 use Rattle.purse.specs.Details.{zeroMessage, sameMessage}
 use Rattle.purse.proofs.Walks.{more-any, apart-more}
-use Rattle.table_records.specs.Records.{messageIn, standingOk}
-use Rattle.table_records.proofs.Same.{turn-message, messageKey, message-key}
+use Rattle.table_records.specs.Records.{messageIn, standingOk, messageKey}
+use Rattle.table_records.proofs.Same.{turn-message, message-key}
 use Rattle.table_records.proofs.Asked.{too-many, one-bad, one-before, none-bad, one-more, Keyed, no-key, key-more}
 use Rattle.table_records.proofs.Lookups.{message-at}
 use Rattle.table_messages.proofs.standing_ok.Statement.{statement}
