@@ -326,7 +326,7 @@ def built(rng):
 def fill_archive(rng, bench, seen):
     last = None
     on_cards = sorted(model.entries(bench))
-    for _ in range(rng.choice([0, 1, 4, 30, 256, 400])):
+    for _ in range(rng.choice([0, 1, 4, 30, 256, 600])):
         if last is not None and rng.random() < 0.5:
             by = rng.choice([last.details.payer, last.details.payee])
             details = rng.choice([last.details, changed_field(rng, last.details, bench.count)])
