@@ -95,8 +95,28 @@ static void collide(Held *held, bool worst) {
     }
 }
 
-typedef enum { APART, SAME_KEY, SAME_KEY_AND_PAYERSEQ } Keys;
-typedef struct { const char *name; unsigned messages, entries, logged; Keys keys; } Size;
+/* Every log full and the archive full, for the claims figure: each card has its purse's 8 payments to the next one. Paired, the archive has
+   the payees' entries of the same payments: 256 pairs, as many as can stand. Else it has the payers' entries of 256 other payments: 512
+   entries whose partner is looked for and stands nowhere. */
+static void log_all(Held *held, bool paired) {
+    Archive *archive = &held->desk.archive;
+    for (unsigned i = 0; i < PLACES; i++) {
+        unsigned payer = i / LOG_PLACES, payee = (payer + 1) % PURSES, k = i % LOG_PLACES;
+        Purse *p = &held->table[payer];
+        Details d = details(payer, 1 + k, payee, 1 + LOG_PLACES + k, CEILING);
+        p->status = IDLE;
+        p->details = (Details){0};
+        p->logged = LOG_PLACES;
+        p->log[k] = d;
+        if (!paired)
+            d.payerseq.value += PLACES;
+        archive->places[PLACES - 1 - i] = (Entry){{(uint8_t)(paired ? payee : payer)}, d};
+    }
+    archive->count = PLACES;
+}
+
+typedef enum { APART, SAME_KEY, SAME_KEY_AND_PAYERSEQ, ALL_PAIRED, ALL_ALONE } Kind;
+typedef struct { const char *name; unsigned messages, entries, logged; Kind kind; } Size;
 static const Size SIZES[] = {
     {"empty", 0, 0, 0, APART},
     {"middling", 128, 128, 4, APART},
@@ -104,8 +124,10 @@ static const Size SIZES[] = {
     {"messages", PLACES, 0, 0, APART},
     {"archive", 0, PLACES, 0, APART},
     {"colliding", PLACES, PLACES, LOG_PLACES, SAME_KEY},
-    {"colliding_worst", PLACES, PLACES, LOG_PLACES, SAME_KEY_AND_PAYERSEQ}};
-enum { EMPTY, MIDDLING, FULL, MESSAGES, ARCHIVE, COLLIDING, COLLIDING_WORST, SIZE_COUNT };
+    {"colliding_worst", PLACES, PLACES, LOG_PLACES, SAME_KEY_AND_PAYERSEQ},
+    {"paired", PLACES, PLACES, LOG_PLACES, ALL_PAIRED},
+    {"alone", PLACES, PLACES, LOG_PLACES, ALL_ALONE}};
+enum { EMPTY, MIDDLING, FULL, MESSAGES, ARCHIVE, COLLIDING, COLLIDING_WORST, PAIRED, ALONE, SIZE_COUNT };
 
 /* One event of each kind; what a full bench answers stands beside. */
 static const uint8_t EVENTS[][EVENT_BYTES] = {
@@ -271,8 +293,10 @@ static void ready(World *w) {
 
 static void set_size(const Size *size) {
     fill(&before, size->messages, size->entries, size->logged);
-    if (size->keys != APART)
-        collide(&before, size->keys == SAME_KEY_AND_PAYERSEQ);
+    if (size->kind == SAME_KEY || size->kind == SAME_KEY_AND_PAYERSEQ)
+        collide(&before, size->kind == SAME_KEY_AND_PAYERSEQ);
+    if (size->kind == ALL_PAIRED || size->kind == ALL_ALONE)
+        log_all(&before, size->kind == ALL_PAIRED);
     if (image_write(before.table, PURSES, &before.desk, image, sizeof image, &image_length) != 0) {
         printf("the state %s breaks the rules\n", size->name);
         exit(1);
@@ -461,7 +485,9 @@ static const struct { const char *name; unsigned call, size, many; } FIGURES[] =
     {"image_read", IMAGE_READ, FULL, 0},
     {"claims_empty", CLAIMS, EMPTY, 0},
     {"claims_middling", CLAIMS, MIDDLING, 0},
-    {"claims", CLAIMS, FULL, 0},
+    {"claims_full", CLAIMS, FULL, 0},
+    {"claims", CLAIMS, PAIRED, 0},
+    {"claims_alone", CLAIMS, ALONE, 0},
     {"card_step_empty", CARD_STEP, EMPTY, 1},
     {"card_step", CARD_STEP, FULL, 1},
     {"card_step_of_16", CARD_STEP, FULL, CARDS}};

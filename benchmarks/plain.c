@@ -1,4 +1,4 @@
-/* The transfer rules of document 01 in plain C: see plain.h. */
+/* The transfer rules in plain C: see plain.h. */
 
 #include "plain.h"
 
@@ -376,23 +376,35 @@ uint8_t bench_open(Purse *table, size_t records, Desk *desk, const Amount *balan
 
 /* ---- Claims ---- */
 
-static bool archived(const Archive *archive, Name by, const Details *details) {
+/* Whether a purse has logged these details, on its card or in the archive. */
+static bool has_logged(const Purse *table, const Archive *archive, Name by, const Details *details) {
+    const Purse *purse = &table[by.value];
+    for (unsigned i = 0; i < purse->logged; i++)
+        if (same(&purse->log[i], details))
+            return true;
     for (unsigned i = 0; i < archive->count; i++)
         if (archive->places[i].by.value == by.value && same(&archive->places[i].details, details))
             return true;
     return false;
 }
 
+/* What an entry adds to the figure: a pair counts once, at its payer's entry. */
+static uint32_t claim(const Purse *table, const Archive *archive, Name by, const Details *details) {
+    if (by.value == details->payer.value && has_logged(table, archive, details->payee, details))
+        return details->amount.value;
+    return 0;
+}
+
 uint8_t bench_claims(const Purse *table, size_t records, const Desk *desk, uint32_t *figure) {
     *figure = 0;
     if (records != PURSES || !table_ok(table, desk))
         return 2;
-    for (unsigned i = 0; i < desk->archive.count; i++) {
-        const Entry *e = &desk->archive.places[i];
-        if (e->by.value == e->details.payer.value &&
-            archived(&desk->archive, e->details.payee, &e->details))
-            *figure += e->details.amount.value;
-    }
+    const Archive *archive = &desk->archive;
+    for (unsigned i = 0; i < desk->purses; i++)
+        for (unsigned j = 0; j < table[i].logged; j++)
+            *figure += claim(table, archive, (Name){(uint8_t)i}, &table[i].log[j]);
+    for (unsigned i = 0; i < archive->count; i++)
+        *figure += claim(table, archive, archive->places[i].by, &archive->places[i].details);
     return 0;
 }
 

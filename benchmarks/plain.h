@@ -1,5 +1,6 @@
-/* The transfer rules of document 01 in plain C, without proof: the yardstick of the benchmarks, and
-   a second reading of the document for the tests (tests/standin).
+/* The transfer rules of document 01, and what document 02 changes of them, in plain C, without proof:
+   the yardstick of the benchmarks, and a second reading of the documents for the tests
+   (tests/standin).
 
    Every function works in place on what the caller lends. Answers are document 01's numbers; an
    answer from 2 up leaves everything as it was. */
@@ -84,7 +85,8 @@ uint8_t image_write(const Purse *table, size_t records, const Desk *desk, uint8_
                     size_t size, size_t *length);
 uint8_t image_read(Purse *table, size_t records, Desk *desk, const uint8_t *image, size_t length);
 
-/* The claims figure of a table that keeps the rules; 2 and figure 0 otherwise. */
+/* The claims figure of a table that keeps the rules, over every matched pair, on cards and in the
+   archive; 2 and figure 0 otherwise. */
 uint8_t bench_claims(const Purse *table, size_t records, const Desk *desk, uint32_t *figure);
 
 /* Records, messages and entries as in an image; unpack takes any bytes. */

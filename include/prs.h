@@ -203,7 +203,8 @@ typedef struct {
     uint32_t claims;
 } prs_figure;
 
-/* The claims figure: what is owed to payers, summed over the pairs of which both entries are in the archive.
+/* The claims figure: what is owed to payers, summed over every matched pair: payer and payee have each logged the same
+   details, in the record or in the archive. At most 1,280,000,000.
    Reads table and desk; changes nothing.
    Answers 0, or 2 with the figure 0. */
 prs_figure prs_claims(const prs_purse *table, size_t records, const prs_desk *desk);

@@ -14,7 +14,7 @@ from typing import NamedTuple
 from .answers import DONE, IDLE, SENT_LOST, counted, meaning, message_name, status_name
 from .drawing import BOLD, LARGE, LEADING, NOTE, PLAIN, SMALL, Drawing, clipped, wrapped
 from .failure import WRONG, Failure
-from .transfers import owed, transfers
+from .transfers import owed, still_on_cards, transfers
 
 PAD = 16
 BOX, GAP = 188, 66
@@ -147,6 +147,9 @@ def foot_lines(steps, state, names):
     sums = [f"{amount} to purse {name}" for name, amount in owed(found).items()]
     if sums:
         yield "owed: " + ", ".join(sums), "strong good"
+        on_cards = still_on_cards(found)
+        if on_cards:
+            yield on_cards, "good"
     else:
         yield "nothing is owed", "strong"
     yield f"paid and on no card: {sum(t.on_no_card for t in found)}", ""

@@ -9,7 +9,7 @@ from .events import BY_WORD, packed
 from .failure import Failure
 from .programs import Probe, listing
 from .state import Message
-from .transfers import transfers
+from .transfers import owed, transfers
 from .words import Event
 
 # What a delivered message makes the purse send, to name a message that was lost as it was sent; a
@@ -137,7 +137,7 @@ class Run:
         return self.steps[place - 1].after if place else self.opened
 
     def lines(self):
-        """The listing as the probe's answers and states have it, and the entries in the archive."""
+        """The listing as the probe's answers and states have it, and the entries in them."""
         yield "PRS 1"
         if self.opening not in DONE:
             yield f"opening {self.opening}"
@@ -146,7 +146,7 @@ class Run:
             yield f"{step.place} {step.answer}"
         for name, p in enumerate(self.end.purses):
             yield f"purse {name} {p.balance} {p.next} {p.status} {len(p.log)}"
-        claims = sum(t.details.amount for t in transfers(self.steps, self.end) if t.claimed)
+        claims = sum(owed(transfers(self.steps, self.end)).values())
         messages, entries = len(self.end.messages), len(self.end.archive)
         yield f"messages {messages} archive {entries} claims {claims}"
 

@@ -3,7 +3,7 @@ moved and the balances; then what broke, who is owed, and the check of demand 3.
 the same sentences."""
 
 from .answers import DONE, WAITS, counted, meaning, message_name, status_name
-from .transfers import CARD, checks, owed, transfers
+from .transfers import checks, owed, still_on_cards, stopped, transfers
 
 
 def payment(details):
@@ -51,19 +51,22 @@ def standing(run):
     yield f"{counted(len(end.messages), 'message')} {stand}, {archived}, claims {run.claims}"
 
 
+def where(transfer):
+    """Where the two entries of a matched pair stand."""
+    if not transfer.on_cards:
+        return "both entries are in the archive"
+    if len(transfer.on_cards) == 2:
+        return "both entries are still on the cards"
+    sides = ["payer", "payee"]
+    card, archived = sides if transfer.on_cards == [transfer.details.payer] else sides[::-1]
+    return f"the {card}'s entry is still on its card, the {archived}'s is in the archive"
+
+
 def outcome(transfer, state):
     """What is owed of a transfer, or why nothing is."""
     d = transfer.details
-    if transfer.claimed:
-        return f"matched: {d.amount} is owed to purse {d.payer}, and stands in the claims"
     if transfer.matched:
-        sides = [(d.payer, transfer.payer_entry), (d.payee, transfer.payee_entry)]
-        left = [f"the entry of purse {name}" for name, entry in sides if entry.where == CARD]
-        collected = f"{' and '.join(left)} {'is' if len(left) == 1 else 'are'} collected"
-        return (
-            f"matched: {d.amount} is owed to purse {d.payer};"
-            f" it stands in the claims once {collected}"
-        )
+        return f"matched: {d.amount} is owed to purse {d.payer}; {where(transfer)}"
     if transfer.arrived:
         return "not matched: nothing is owed, the money arrived"
     if not transfer.paid:
@@ -101,6 +104,9 @@ def sums(run):
     found = transfers(run.steps, run.end)
     said = [f"{amount} to purse {name}" for name, amount in owed(found).items()]
     yield "owed: " + (", ".join(said) if said else "nothing")
+    on_cards = still_on_cards(found)
+    if on_cards:
+        yield f"  {on_cards}"
     unarrived = [t for t in found if t.on_no_card]
     yield f"money paid and on no card: {sum(t.on_no_card for t in unarrived)}"
     for transfer in unarrived:
@@ -111,7 +117,8 @@ def sums(run):
 
 
 def demand(run):
-    """The check of demand 3 for each purse, with its numbers; whether all come out."""
+    """The check of demand 3 for each purse and for all together, with its numbers; whether all come
+    out."""
     lines, right = [], True
     for step in run.stops:
         lines.append(
@@ -124,7 +131,15 @@ def demand(run):
             f"purse {check.purse}: {less} + {check.arrived_here} = {check.should},"
             f" and it has {check.balance}: {'right' if check.right else 'WRONG'}"
         )
-    return lines, right
+    last, found = stopped(run)
+    opening = sum(purse.balance for purse in run.opened.purses)
+    balances, claims = sum(purse.balance for purse in last.purses), sum(owed(found).values())
+    is_whole = balances + claims == opening
+    lines.append(
+        f"all purses: {balances} + {claims} owed = {balances + claims},"
+        f" and they opened with {opening}: {'right' if is_whole else 'WRONG'}"
+    )
+    return lines, right and is_whole
 
 
 FORMULA = "opening - its payments that arrived - its matched pairs + what arrived in it = balance"

@@ -1,12 +1,12 @@
 """What became of each payment of a run: paid, arrived, logged, matched, owed; and the check of
-demand 3. Document 01's words:
+demand 3. The documents' words:
 
 A payment is paid at the delivery of its request that answers 0 or 1, and arrives at the delivery
 of its value that answers 0 or 1. Matched: the payer and the payee have each logged the same
-details, in the purse or in the archive. Claims, the figure printed as owed to payers, is the sum
-over pairs with both entries in the archive. Demand 3: once every purse is stopped, each has its
+details, in the purse or in the archive. Claims, the figure printed as owed to payers, counts every
+matched pair, wherever the two entries stand. Demand 3: once every purse is stopped, each has its
 opening balance, less its payments that arrived, less what its matched log pairs record, plus
-what arrived in it.
+what arrived in it. So all balances and the claims then make up the opening sum.
 """
 
 from typing import NamedTuple
@@ -43,9 +43,10 @@ class Transfer(NamedTuple):
         return self.payer_entry is not None and self.payee_entry is not None
 
     @property
-    def claimed(self):
-        """Whether the figure printed as claims has it."""
-        return self.matched and {self.payer_entry.where, self.payee_entry.where} == {ARCHIVE}
+    def on_cards(self):
+        """The purses of a matched pair whose entry is still on the card."""
+        sides = [(self.details.payer, self.payer_entry), (self.details.payee, self.payee_entry)]
+        return [name for name, entry in sides if self.matched and entry.where == CARD]
 
     @property
     def broken(self):
@@ -99,6 +100,18 @@ def owed(found):
     return dict(sorted(sums.items()))
 
 
+def still_on_cards(found):
+    """How much of what is owed has an entry still on a card, and on which cards, in words; None
+    where every pair is archived."""
+    pairs = [transfer for transfer in found if transfer.on_cards]
+    if not pairs:
+        return None
+    amount = sum(transfer.details.amount for transfer in pairs)
+    names = sorted({name for transfer in pairs for name in transfer.on_cards})
+    cards = ", ".join(f"purse {name}" for name in names)
+    return f"of it {amount} with entries still on cards: {cards}"
+
+
 class Check(NamedTuple):
     """Demand 3 for one purse, with its numbers."""
 
@@ -118,11 +131,16 @@ class Check(NamedTuple):
         return self.should == self.balance
 
 
-def checks(run):
-    """Demand 3 for each purse, once those still busy are stopped."""
+def stopped(run):
+    """The state once the purses still busy are stopped, and the payments as they then stand."""
     steps = [*run.steps, *run.stops]
     last = steps[-1].after if steps else run.opened
-    found = transfers(steps, last)
+    return last, transfers(steps, last)
+
+
+def checks(run):
+    """Demand 3 for each purse, once those still busy are stopped."""
+    last, found = stopped(run)
     arrived = [t.details for t in found if t.arrived]
     for name, purse in enumerate(last.purses):
         yield Check(

@@ -1,5 +1,6 @@
 #!/usr/bin/env python3
-"""Document 01's lines "At the edges", each with the answer that the document gives.
+"""Document 01's lines "At the edges", each with the answer that the document gives, and claims figures
+by A1 worked out by hand.
 
 Every edge is a bench made by hand, events, and their answers, so that the lines which no list of
 events reaches (next number 4,294,967,294) stand beside the others. Run alone, the script checks the
@@ -10,7 +11,7 @@ from typing import NamedTuple
 
 from common import finish, words
 import model
-from model import NO_DETAILS, NO_PURSE, Bench, Details, Message
+from model import NO_DETAILS, NO_PURSE, Bench, Details, Entry, Message
 
 
 class Edge(NamedTuple):
@@ -99,6 +100,47 @@ def edges():
     yield Edge("event of 11 bytes", two, [starts(1)[0][:11]], [3])
 
 
+class Figure(NamedTuple):
+    says: str
+    bench: Bench
+    claims: int
+
+
+def full_of_pairs(payers_on_cards):
+    """32 full logs and a full archive: each purse has 8 payments of 5,000,000 to the next one, one
+    side's entry on its card and the other's in the archive, the last first."""
+    bench = bench_of(*[purse(next_number=17)] * model.PURSES)
+    entries = []
+    for name in range(model.PURSES):
+        other = (name + (1 if payers_on_cards else model.PURSES - 1)) % model.PURSES
+        payer, payee = (name, other) if payers_on_cards else (other, name)
+        log = tuple(Details(payer, k, payee, 8 + k, model.CEILING) for k in range(1, 9))
+        bench.table[name] = bench.table[name]._replace(logged=model.LOG_PLACES, log=log)
+        entries += [Entry(other, details) for details in log]
+    bench.archive, bench.archive_count = entries[::-1], len(entries)
+    return bench
+
+
+def figures():
+    """Claims: "every matched pair, wherever the two entries stand"."""
+    listed = bench_of(purse(1000), purse(200))
+    for text, claims in [
+        ("start-from 0 to 1 number 1 amount 300", 0),
+        ("start-to 1 from 0 number 1 amount 300", 0),
+        ("deliver 0 to 0", 0),
+        ("abort 1", 0),
+        ("deliver 1 to 1", 0),
+        ("abort 0", 300),
+        ("collect 0", 300),
+        ("collect 1", 300),
+    ]:
+        model.event(listed, event(text))
+        yield Figure(f"the listing after {text}", listed.copy(), claims)
+    for side, on_cards in [("payers'", True), ("payees'", False)]:
+        says = f"256 pairs, the {side} entries on the cards"
+        yield Figure(says, full_of_pairs(on_cards), 1_280_000_000)
+
+
 def main():
     passed = failed = 0
     for edge in edges():
@@ -109,6 +151,13 @@ def main():
         else:
             failed += 1
             print(f"{edge.says}: expected {edge.answers}, got {got}")
+    for figure in figures():
+        got = model.claims(figure.bench)
+        if got == figure.claims and model.well_formed(figure.bench):
+            passed += 1
+        else:
+            failed += 1
+            print(f"{figure.says}: expected claims {figure.claims}, got {got}")
     finish(passed, failed)
 
 

@@ -249,6 +249,14 @@ def any_details(rng, bench, name):
     return Details(other, theirs, name, own, amount)
 
 
+def partner(rng, details):
+    """The details that the other purse logged too, or those of another payment of one price."""
+    if rng.random() < 0.7:
+        return details
+    field = rng.choice(["payer_number", "payee_number"])
+    return details._replace(**{field: rng.choice([1, getattr(details, field) ^ 1])})
+
+
 def drawn_purse(rng, bench, name):
     """The purse with running details drawn for it, where they keep the rules."""
     purse = bench.table[name]
@@ -295,7 +303,11 @@ def built(rng):
         last = None if purse.status == IDLE else purse.details
         seen.add((name, last))
         for _ in range(min(wanted, LOG_PLACES if purse.status == IDLE else LOG_PLACES - 1)):
-            if last is not None and rng.random() < 0.4:
+            chance = rng.random()
+            theirs = sorted(d for by, d in seen if d and by != name and name in (d.payer, d.payee))
+            if theirs and chance < 0.4:
+                last = partner(rng, rng.choice(theirs))
+            elif last is not None and chance < 0.6:
                 last = changed_field(rng, last, bench.count)
             else:
                 last = any_details(rng, bench, name)
@@ -313,10 +325,15 @@ def built(rng):
 
 def fill_archive(rng, bench, seen):
     last = None
-    for _ in range(rng.choice([0, 1, 4, 30, 256, 400])):
+    on_cards = sorted(model.entries(bench))
+    for _ in range(rng.choice([0, 1, 4, 30, 256, 600])):
         if last is not None and rng.random() < 0.5:
             by = rng.choice([last.details.payer, last.details.payee])
             details = rng.choice([last.details, changed_field(rng, last.details, bench.count)])
+        elif on_cards and rng.random() < 0.3:
+            logger, details = rng.choice(on_cards)
+            by = details.payee if logger == details.payer else details.payer
+            details = partner(rng, details)
         else:
             by = rng.randrange(bench.count)
             details = any_details(rng, bench, by)

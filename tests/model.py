@@ -1,10 +1,10 @@
-"""A model of the transfer rules (document 01) in plain Python.
+"""A model of the transfer rules (document 01, and what document 02 changes of it) in plain Python.
 
-It was written from the document alone and shares no code with the product, so that the two can
+It was written from the documents alone and shares no code with the product, so that the two can
 be run side by side and compared byte by byte. It answers for any raw state, damaged ones too:
 a `Bench` holds exactly what the product's bench holds, unused places included.
 
-Quoted sentences are document 01's.
+Quoted sentences are document 01's where no request of 02 is named.
 """
 
 import struct
@@ -399,10 +399,23 @@ def opening(bench, balances):
     return 0
 
 
+def entries(bench):
+    """Every entry with the purse that logged it, "in the purse or in the archive"."""
+    logged = set(bench.archive[: bench.archive_count])
+    for by, purse in enumerate(bench.table[: bench.count]):
+        logged.update(Entry(by, details) for details in purse.log[: purse.logged])
+    return logged
+
+
+def matched(bench):
+    """ "the payer and the payee have each logged the same details": those details, each once """
+    logged = entries(bench)
+    return [d for by, d in logged if by == d.payer and (d.payee, d) in logged]
+
+
 def claims(bench):
-    """ "the sum over pairs with both entries in the archive" """
-    entries = set(bench.archive[: bench.archive_count])
-    return sum(d.amount for by, d in entries if by == d.payer and (d.payee, d) in entries)
+    """A1: "every matched pair, wherever the two entries stand" """
+    return sum(d.amount for d in matched(bench))
 
 
 # ---- Bytes: details, records, messages and entries as in an image

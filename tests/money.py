@@ -4,7 +4,8 @@ run on random lists of events from an opening.
 
 After every event the table is well formed and, for each purse, its balance and what it paid make up
 its opening balance and what arrived. Once every purse is stopped, what a payer paid and did not
-arrive is exactly its matched pairs, in the purse or in the archive.
+arrive is exactly its matched pairs, in the purse or in the archive; and all balances with the claims
+figure make up the opening sum, which is what a help desk can check.
 
     money.py [--seed S] [--lists N]
 """
@@ -20,11 +21,7 @@ from model import ABORT, DELIVER, REQUEST, VALUE
 
 def matched(bench, name):
     """The sum over payments from this purse that it and the payee have each logged."""
-    logged = set(bench.archive[: bench.archive_count])
-    for by in range(bench.count):
-        purse = bench.table[by]
-        logged.update((by, details) for details in purse.log[: purse.logged])
-    return sum(d.amount for by, d in logged if by == d.payer == name and (d.payee, d) in logged)
+    return sum(d.amount for d in model.matched(bench) if d.payer == name)
 
 
 class Ledger:
@@ -64,6 +61,10 @@ class Ledger:
             missing = [d for d in self.paid if d.payer == name and d not in self.arrived]
             if sum(d.amount for d in missing) != matched(self.bench, name):
                 return f"purse {name}: {missing} missing, matched {matched(self.bench, name)}"
+        balances = sum(purse.balance for purse in self.bench.table[: self.bench.count])
+        claims = model.claims(self.bench)
+        if balances + claims != sum(self.opening):
+            return f"balances {balances} and claims {claims} are not {sum(self.opening)}"
         return None
 
 

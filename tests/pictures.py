@@ -102,13 +102,24 @@ def tellings():
         "300 from purse 0 (its number 1) to purse 1 (its number 1)",
         "payer, purse 0: logged, the entry is in the archive (place 0)",
         "payee, purse 1: logged, the entry is in the archive (place 1)",
-        "matched: 300 is owed to purse 0, and stands in the claims",
+        "matched: 300 is owed to purse 0; both entries are in the archive\n",
         "paid and on no card: 300",
-        "owed: 300 to purse 0",
-        "money paid and on no card: 300",
+        "owed: 300 to purse 0\n  money paid and on no card: 300",
         "all balances: 1200 at opening, 900 now",
         "purse 0: 1000 - 0 - 300 + 0 = 700, and it has 700: right",
         "purse 1: 200 - 0 - 0 + 0 = 200, and it has 200: right",
+        "all purses: 900 + 300 owed = 1200, and they opened with 1200: right",
+    )
+    told = prs("tell", EXAMPLES / "still-on-cards.txt").stdout.decode()
+    says(
+        "still-on-cards",
+        told,
+        "2 messages stand, 0 archive entries, claims 300",
+        "payer, purse 0: logged, the entry is on its card (place 0)",
+        "payee, purse 1: logged, the entry is on its card (place 0)",
+        "matched: 300 is owed to purse 0; both entries are still on the cards\n",
+        "owed: 300 to purse 0\n    of it 300 with entries still on cards: purse 0, purse 1\n",
+        "all purses: 900 + 300 owed = 1200, and they opened with 1200: right",
     )
     told = prs("tell", EXAMPLES / "two-of-one-price.txt").stdout.decode()
     says(
@@ -118,7 +129,7 @@ def tellings():
         "300 came to purse 1; purse 1 has 500, purse 0 has 400",
         "Broken transfers: 3",
         "300 from purse 0 (its number 1) to purse 1 (its number 1)",
-        "matched: 300 is owed to purse 0, and stands in the claims",
+        "matched: 300 is owed to purse 0; both entries are in the archive\n",
         "300 from purse 0 (its number 2) to purse 1 (its number 2)",
         "payee, purse 1: logged nothing",
         "not matched: nothing is owed, the money arrived",
@@ -139,6 +150,7 @@ def tellings():
         "which no card has logged yet",
         "purse 0 is still busy",
         "purse 0: 1000 - 0 - 300 + 0 = 700",
+        "all purses: 900 + 300 owed = 1200, and they opened with 1200: right",
     )
     says(
         "the payee alone has logged",
@@ -147,13 +159,14 @@ def tellings():
         "not matched: purse 0 still runs it (epa); nothing is owed yet",
         "paid and on no card: 300",
     )
-    says(
-        "logged, not collected",
-        telling.told(run_of(paid + "abort 1\nabort 0\ncollect 0")),
-        "claims 0",
-        "matched: 300 is owed to purse 0; it stands in the claims once the entry of purse 1 is collected",
-        "owed: 300 to purse 0",
-    )
+    for collected, other, sides in [(0, 1, ("payee", "payer")), (1, 0, ("payer", "payee"))]:
+        says(
+            f"purse {collected} alone is collected",
+            telling.told(run_of(paid + f"abort 1\nabort 0\ncollect {collected}")),
+            "1 archive entry, claims 300",
+            f"matched: 300 is owed to purse 0; the {sides[0]}'s entry is still on its card, the {sides[1]}'s is in the archive\n",
+            f"owed: 300 to purse 0\n    of it 300 with entries still on cards: purse {other}\n",
+        )
     says(
         "bytes",
         telling.told(
@@ -213,10 +226,23 @@ def words_of(events):
         ) and line else f"bytes {data.hex(' ')}"
 
 
+def on_cards(bench):
+    """The line about the pairs of which an entry is still on a card, by the model; None without."""
+    archive = set(bench.archive[: bench.archive_count])
+    left = [(name, d) for d in model.matched(bench) for name in (d.payer, d.payee)]
+    left = [(name, d) for name, d in left if (name, d) not in archive]
+    if not left:
+        return None
+    amount = sum(d.amount for d in {d for _, d in left})
+    cards = ", ".join(f"purse {name}" for name in sorted({name for name, _ in left}))
+    return f"of it {amount} with entries still on cards: {cards}"
+
+
 def against_model(seed, lists):
     """Each telling of a random list says what the model says: answers, balances, what was paid,
-    owed, and claimed."""
+    owed, and claimed, and what of it is still on cards, which the chart says too."""
     rng = random.Random(seed)
+    ways = set()
     for place in range(lists):
         bench = generate.opened(rng, rng.choice([2, 2, 3, 5]))
         balances = [purse.balance for purse in bench.table[: bench.count]]
@@ -278,7 +304,17 @@ def against_model(seed, lists):
         ]:
             if line not in told:
                 wrong.append(f"not said: {line!r}")
+        line = on_cards(again)
+        ways.add(line is not None)
+        drawn = chart.drawn(done)
+        foot = [text for text, _ in texts_of(drawn) if text.startswith("of it ")]
+        if (f"    {line}\n" in told) != bool(line) or "".join(foot[:1]) != (line or ""):
+            wrong.append(f"not said, or not drawn: {line!r}, drawn {foot}")
         ledger.stopped()
+        first, has = sum(balances), sum(purse.balance for purse in again.table[: again.count])
+        line = f"all purses: {has} + {first - has} owed = {first}, and they opened with {first}: right"
+        if line not in told:
+            wrong.append(f"not said: {line!r}")
         for name in range(again.count):
             arrived = sum(d.amount for d in ledger.arrived if d.payer == name), sum(
                 d.amount for d in ledger.arrived if d.payee == name
@@ -287,7 +323,8 @@ def against_model(seed, lists):
             if line not in told:
                 wrong.append(f"not said: {line!r}")
         hold(f"seed {seed}, list {place}", (not wrong, wrong[:3]))
-        overlaps(f"seed {seed}, list {place}", chart.drawn(done))
+        overlaps(f"seed {seed}, list {place}", drawn)
+    hold("lists with entries of pairs on cards, and without", (ways == {True, False}, ways))
 
 
 def disagreeing():
@@ -367,6 +404,10 @@ def pictures():
         "value refused",
     ]:
         hold(f"entries and what is owed: {want}", (want in texts, texts))
+    hold("all is collected", (not [t for t in texts if "still on cards" in t], texts))
+    texts = [text for text, _ in texts_of(prs("chart", EXAMPLES / "still-on-cards.txt").stdout)]
+    for want in ["owed: 300 to purse 0", "of it 300 with entries still on cards: purse 0, purse 1"]:
+        hold(f"entries still on cards: {want}", (want in texts, texts))
     again = run_of(
         "open 9 9\nstart-from 0 to 1 number 1 amount 3\nstart-to 1 from 0 number 1 amount 3\n"
         + "deliver 0 to 1\n" * 2
@@ -628,7 +669,7 @@ def browsed(room, data):
                 got["wide"] <= got["window"],
                 f"it is {got['wide']} wide in a window of {got['window']}",
             ),
-            (got["pictures"] == 8, got["pictures"]),
+            (got["pictures"] == len(list(EXAMPLES.glob("*.txt"))) + 1, got["pictures"]),
             (not got["wrong"], got["wrong"]),
             (beside == (width == 1280), f"its parts stand at {got['parts']}"),
         )

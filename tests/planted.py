@@ -17,7 +17,7 @@ PLAIN = ROOT / "benchmarks" / "plain.c"
 BUILT = ROOT / "target" / "planted"
 
 # Name, old text (once in plain.c), new text. The first five are document 01's "Errors that look
-# reasonable".
+# reasonable"; those named claims are of A1.
 PLANTED = [
     (
         "log room tested at the abort",
@@ -329,16 +329,60 @@ PLANTED = [
         "    for",
     ),
     (
-        "claims counted for both sides",
-        "        if (e->by.value == e->details.payer.value &&\n"
-        "            archived(&desk->archive, e->details.payee, &e->details))",
-        "        if (archived(&desk->archive, e->details.payee, &e->details))",
+        "claims counted from each side",
+        "by.value == details->payer.value && has_logged(table, archive, details->payee, details)",
+        "has_logged(table, archive, by.value == details->payer.value ? details->payee :"
+        " details->payer, details)",
+    ),
+    (
+        "claims of the archive alone",
+        "    for (unsigned i = 0; i < desk->purses; i++)\n"
+        "        for (unsigned j = 0; j < table[i].logged; j++)\n"
+        "            *figure += claim(table, archive, (Name){(uint8_t)i}, &table[i].log[j]);\n",
+        "    static const Purse none[PURSES];\n"
+        "    table = none;\n",
+    ),
+    (
+        "claims matched on cards without the numbers",
+        "        if (same(&purse->log[i], details))\n",
+        "        if (purse->log[i].payer.value == details->payer.value &&"
+        " purse->log[i].payee.value == details->payee.value &&"
+        " purse->log[i].amount.value == details->amount.value)\n",
+    ),
+    (
+        "claims without payers' cards",
+        "        for (unsigned j = 0; j < table[i].logged; j++)\n"
+        "            *figure += claim(",
+        "        for (unsigned j = 0; j < 0; j++)\n"
+        "            *figure += claim(",
+    ),
+    (
+        "claims without payees' cards",
+        "        if (same(&purse->log[i], details))\n"
+        "            return true;\n",
+        "        if (i == UINT32_MAX)\n"
+        "            return true;\n",
+    ),
+    (
+        "claims without payees' archive entries",
+        "    for (unsigned i = 0; i < archive->count; i++)\n"
+        "        if (archive->places[i].by",
+        "    for (unsigned i = 0; i < 0; i++)\n"
+        "        if (archive->places[i].by",
+    ),
+    (
+        "claims with a payee still busy",
+        "    const Purse *purse = &table[by.value];\n"
+        "    for",
+        "    const Purse *purse = &table[by.value];\n"
+        "    if (same(&purse->details, details))\n"
+        "        return true;\n"
+        "    for",
     ),
     (
         "claims without a partner",
-        "        if (e->by.value == e->details.payer.value &&\n"
-        "            archived(&desk->archive, e->details.payee, &e->details))",
-        "        if (e->by.value == e->details.payer.value)",
+        "by.value == details->payer.value && has_logged(table, archive, details->payee, details)",
+        "by.value == details->payer.value",
     ),
     ("image one byte short", "    if (size < needed)\n", "    if (size + 1 < needed)\n"),
     ("image needs the largest buffer", "    if (size < needed)\n", "    if (size < 12042)\n"),

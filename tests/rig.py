@@ -1,5 +1,5 @@
 #!/usr/bin/env python3
-"""The differential rig: drives the bench program and the probe beside the model of document 01 and
+"""The differential rig: drives the bench program and the probe beside the model of the documents and
 compares every byte that they give.
 
     rig.py                          both programs, at their places under target/bin
@@ -7,10 +7,10 @@ compares every byte that they give.
     rig.py --seed 7 --events 1000000 --requests 100000
     rig.py --prs PATH --probe PATH  other programs
 
-Parts: the edges of document 01; requests to the probe on right and damaged benches, images and
-records; each field of a state and of a record at each of its edges; the ends of the probe's
-stream; lists of events through the program (accepted and refused ones, replays, losses, full logs,
-archive and ether, bad openings, cut events). vectors.py and examples.sh run the test vectors.
+Parts: the edges of document 01 and claims figures of A1; requests to the probe on right and damaged
+benches, images and records; each field of a state and of a record at each of its edges; the ends of
+the probe's stream; lists of events through the program (accepted and refused ones, replays, losses,
+full logs, archive and ether, bad openings, cut events). vectors.py and examples.sh run the vectors.
 
 A failure says the seed, the case and the first difference, and keeps the input under target/rig.
 The last line is 'N passed, M failed'; the exit status is 1 on any failure.
@@ -29,7 +29,7 @@ from collections import Counter
 from pathlib import Path
 
 from common import PROBE, PRS, ROOT, finish, words
-from edges import edges
+from edges import edges, figures
 import generate
 import model
 from model import ENTRIES, LOG_PLACES, MESSAGES, PURSES, RECORD_SIZE
@@ -200,6 +200,21 @@ def write_request(bench, size, says):
     body = state_bytes(bench) + struct.pack(">H", size)
     reply = struct.pack(">BH", answer, length) + buffer
     return Request("W", bench, body, reply, f"buffer of {size} bytes, {says}", model.faults(bench))
+
+
+def pair_places(bench):
+    """The ways in which matched pairs stand, the payer's entry first, and "one price" where entries
+    of two payments would pair but for their numbers."""
+    archive = set(bench.archive[: bench.archive_count])
+    for d in model.matched(bench):
+        sides = [(d.payer, d), (d.payee, d)]
+        yield " and ".join("archive" if side in archive else "card" for side in sides)
+    logged = model.entries(bench)
+    prices = {(by, d.payer, d.payee, d.amount) for by, d in logged if by == d.payee}
+    for by, d in logged:
+        price = (d.payee, d.payer, d.payee, d.amount)
+        if by == d.payer and price in prices and (d.payee, d) not in logged:
+            yield "one price"
 
 
 def claims_request(bench, says):
@@ -430,6 +445,13 @@ def run_edges(probe, tally):
                 fault = f"{edge.says}: {fault}"
             tally.count(f"edge {place}", fault, request.bytes)
             model.event(bench, data)
+    for place, figure in enumerate(figures(), 1):
+        request = claims_request(figure.bench, figure.says)
+        got = probe.ask(request)
+        fault = request.difference(got)
+        if fault is None and got != struct.pack(">BI", 0, figure.claims):
+            fault = f"A1 says {figure.claims}, got {got.hex()}"
+        tally.count(f"figure {place}", fault and f"{figure.says}: {fault}", request.bytes)
 
 
 def state_of(data):
@@ -542,9 +564,10 @@ def plain_request(letter, bench, says):
     return event_request(bench, words.event_bytes(model.ABORT), says)
 
 
-def run_requests(probe, requests, tally, seen, alone):
-    """Drawn requests; notes the answers given and the rules that were broken alone. A bench that
-    breaks one rule alone goes to the other entries too, until each has seen that rule thrice."""
+def run_requests(probe, requests, tally, seen, alone, pairs):
+    """Drawn requests; notes the answers given, the rules that were broken alone and how the pairs of
+    claims stand. A bench that breaks one rule alone goes to the other entries too, until each has
+    seen that rule thrice."""
     pool = generate.Pool(random.Random(f"{tally.seed} pool"))
     rng = random.Random(f"{tally.seed} requests")
 
@@ -554,6 +577,8 @@ def run_requests(probe, requests, tally, seen, alone):
             fault = f"{request.letter} ({request.says}): {fault}"
         tally.count(case, fault, request.bytes)
         seen[request.letter, request.reply[0]] += 1
+        if request.letter == "C" and request.reply[0] == 0:
+            pairs.update(set(pair_places(request.bench)))
         rule = request.broken_alone()
         alone[request.letter, rule] += 1
         return rule
@@ -649,8 +674,15 @@ STATE_RULES = [
 ]
 
 
-def check_reach(tally, seen, alone):
-    """The rig's own reach: every answer was given and every rule was broken alone."""
+# How a matched pair can stand, the payer's entry first; and what is none.
+PAIRS = ["card and card", "card and archive", "archive and card", "archive and archive", "one price"]
+
+
+def check_reach(tally, seen, alone, pairs):
+    """The rig's own reach: every answer was given, every rule was broken alone, and claims were asked
+    for with pairs that stand in every way."""
+    missed = [way for way in PAIRS if not pairs[way]]
+    tally.count("reach pairs", f"no claims were asked for with {missed}" if missed else None)
     for letter, numbers in ANSWERS.items():
         missed = [number for number in numbers if not seen[letter, number]]
         fault = f"no request {letter} was drawn with the answers {missed}" if missed else None
@@ -682,11 +714,11 @@ def main():
             sys.exit(f"no program {program}")
     signal.signal(signal.SIGALRM, out_of_time)
     tally = Tally(asked.seed, asked.stop)
-    answers, seen, alone = Counter(), Counter(), Counter()
+    answers, seen, alone, pairs = Counter(), Counter(), Counter(), Counter()
     print(f"seed {asked.seed}")
     probe = Probe(asked.probe)
     run_edges(probe, tally)
-    run_requests(probe, asked.requests, tally, seen, alone)
+    run_requests(probe, asked.requests, tally, seen, alone, pairs)
     run_sweep(probe, tally, alone)
     left, status = probe.end()
     ended = f"wrote {len(left)} bytes more and ended with {status}" if left or status != 0 else None
@@ -695,11 +727,12 @@ def main():
     print(f"{asked.requests} requests to the probe; rules broken alone at E, W, C, R and P:")
     for rule in sorted({rule for _, rule in alone} - {None}):
         print("".join(f"{alone[letter, rule]:6}" for letter in "EWCRP"), rule)
+    print("claims with pairs: " + ", ".join(f"{way}: {pairs[way]}" for way in PAIRS))
     done, lists = run_programs(asked.prs, asked.events, tally, answers)
     print(f"{done} events in {lists} inputs through the program; answers:")
     print("  " + ", ".join(f"{answer}: {count}" for answer, count in sorted(answers.items())))
     if asked.requests >= REACHING:
-        check_reach(tally, seen, alone)
+        check_reach(tally, seen, alone, pairs)
     finish(tally.passed, tally.failed)
 
 

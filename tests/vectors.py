@@ -1,11 +1,12 @@
 #!/usr/bin/env python3
 """The test vectors of the bench program: inputs named here, their listings beside them.
 
-Each vector is an input in the words of docs/REPLAY.md and the answers that document 01 gives
-it, worked out by hand; `..` at the front stands for answers not written out. The vectors and the
-examples are kept as files: tests/vectors/NAME.in and NAME.out, examples/NAME.txt and NAME.out. The
-program of crates/vectors runs the same inputs in the gate: it has copies of its own (data/, args,
-stdout), since it is run outside the repository.
+Each vector is an input in the words of docs/REPLAY.md and the answers that document 01 gives it,
+worked out by hand; `..` at the front stands for answers not written out. Of the vectors about claims
+the last line is worked out by hand too. The vectors and the examples are kept as files:
+tests/vectors/NAME.in and NAME.out, examples/NAME.txt and NAME.out. The program of crates/vectors runs
+the same inputs in the gate: it has copies of its own (data/, args, stdout), since it is run outside
+the repository.
 
     vectors.py             checks the files against the answers below and against the model
     vectors.py --write     writes the files anew
@@ -20,7 +21,8 @@ import model
 
 GATE = ROOT / "crates" / "vectors"
 
-LISTING = """
+# the listing's input cut after event 6: both cards hold their entry
+UNCOLLECTED = """
 open 1000 200
 start-from 0 to 1 number 1 amount 300
 start-to 1 from 0 number 1 amount 300
@@ -28,9 +30,8 @@ deliver 0 to 0
 abort 1
 deliver 1 to 1
 abort 0
-collect 0
-collect 1
 """
+LISTING = UNCOLLECTED + "collect 0\ncollect 1\n"
 
 # "prints:", as document 01 gives it
 LISTING_PRINTED = """\
@@ -66,10 +67,28 @@ def events(*rows):
     return "".join(f"bytes {row}\n" for row in rows)
 
 
+def broken(payer, payer_number, payee, payee_number, amount, place):
+    """A payment that both have logged; its request is the message at that place."""
+    return (
+        f"start-from {payer} to {payee} number {payee_number} amount {amount}\n"
+        f"start-to {payee} from {payer} number {payer_number} amount {amount}\n"
+        f"deliver {place} to {payer}\nabort {payer}\nabort {payee}\n"
+    )
+
+
 def places(*numbers):
     """A delivery and a loss at each of these places."""
     return "".join(f"deliver {place} to 0\nlose {place}\n" for place in numbers)
 
+
+# payer and payee have each logged 300, of different payments: the first arrived, the second was not paid
+ONE_PRICE = (
+    TWO
+    + PAYMENT
+    + "deliver 0 to 0\nabort 0\ndeliver 1 to 1\n"
+    + "start-from 0 to 1 number 2 amount 300\nstart-to 1 from 0 number 2 amount 300\n"
+    + "abort 1\nabort 0\n"
+)
 
 VECTORS_MADE = {
     # the listing of document 01
@@ -288,6 +307,32 @@ VECTORS_MADE = {
         + "deliver 0 to 0\n",
         "0 0 0 0 0 13 0 0 13",
     ),
+    # claims by A1: every matched pair, wherever its two entries stand
+    "claims-on-cards": (UNCOLLECTED, "0 0 0 0 13 0"),
+    "claims-payer-archived": (UNCOLLECTED + "collect 0\n", "0 0 0 0 13 0 0"),
+    "claims-payee-archived": (UNCOLLECTED + "collect 1\n", "0 0 0 0 13 0 0"),
+    "claims-payer-busy": (TWO + PAYMENT + "deliver 0 to 0\nabort 1\n", "0 0 0 0"),
+    "claims-payee-busy": (TWO + PAYMENT + "deliver 0 to 0\nabort 0\n", "0 0 0 0"),
+    "claims-one-price": (ONE_PRICE, "0 0 0 0 0 0 0 0 0"),
+    "claims-one-price-archived": (ONE_PRICE + "collect 0\ncollect 1\n", ".. 0 0"),
+    "claims-mixed": (
+        "open 60000 60000 60000 60000\n"
+        + broken(0, 1, 1, 1, 1, 0)
+        + "collect 0\ncollect 1\n"  # 1: both archived
+        + broken(0, 2, 1, 2, 20, 2)
+        + "collect 0\n"  # 20: the payer's archived
+        + broken(2, 1, 3, 1, 300, 4)
+        + "collect 3\n"  # 300: the payee's archived
+        + broken(2, 2, 3, 2, 4000, 6)  # 4000: both on cards
+        # 50000 arrives, and the payer alone logs it
+        + "start-from 1 to 2 number 3 amount 50000\nstart-to 2 from 1 number 3 amount 50000\n"
+        + "deliver 8 to 1\ndeliver 9 to 2\nabort 1\n"
+        # 50000 is never paid, and the payee alone logs it
+        + "start-to 0 from 3 number 3 amount 50000\nabort 0\n"
+        # both sides of a pair on cards are busy again
+        + "start-from 2 to 3 number 3 amount 7\nstart-to 3 from 2 number 4 amount 7\n",
+        " ".join(["0"] * 33),
+    ),
     # opening
     "open-empty-input": ("", "opening 20"),
     "open-0": ("bytes 00", "opening 20"),
@@ -313,6 +358,18 @@ VECTORS_MADE = {
     # a last event cut short
     "cut-1": (LISTING + "bytes 01", "0 0 0 0 13 0 0 0 3"),
     "cut-11": (LISTING + events("04000000 00000000 000000"), "0 0 0 0 13 0 0 0 3"),
+}
+
+# The last line of the vectors about claims.
+CLAIMS = {
+    "claims-on-cards": "messages 2 archive 0 claims 300",
+    "claims-payer-archived": "messages 2 archive 1 claims 300",
+    "claims-payee-archived": "messages 2 archive 1 claims 300",
+    "claims-payer-busy": "messages 2 archive 0 claims 0",
+    "claims-payee-busy": "messages 2 archive 0 claims 0",
+    "claims-one-price": "messages 4 archive 0 claims 0",
+    "claims-one-price-archived": "messages 4 archive 2 claims 0",
+    "claims-mixed": "messages 13 archive 4 claims 4321",
 }
 
 
@@ -369,6 +426,8 @@ def wrong(name, data, listing, answers):
         return f"the listing file does not give the answers {answers}"
     if name == "listing" and want.decode() != LISTING_PRINTED:
         return "the listing file is not document 01's listing"
+    if name in CLAIMS and want.decode().splitlines()[-1] != CLAIMS[name]:
+        return f"the listing file does not end with {CLAIMS[name]}"
     if model.program(data) != want:
         return "the model prints another listing"
     return None
