@@ -11,7 +11,7 @@ use types.Kit.{Given}
 use denote.RattleType.{RattleType}
 use denote.Laws.{Is, Makes}
 use denote.Memory.{mem}
-use denote.Array.{Array, array-vals, array-lawful, array-makes}
+use denote.Array.{Array, array-lawful, array-makes}
 use denote.Struct.Laws as LL
 use Rattle.purse.specs.declared.Purse.{Purse}
 use Rattle.desk.specs.declared.Desk.{Desk}
@@ -30,9 +30,6 @@ psize = mem T.the-row .size
 
 abbrev pub Table : RattleType
 Table = Array T.the-row 32
-
-abbrev pub tvals : List Purse → List Val
-tvals t = array-vals (LL.vals T.the-type T′.the-laws) t
 
 module _ {M : Type 1} (𝓤 : URA M) (H : Heap 𝓤) (A : Atoms 𝓤) (W : Given 𝓤 H A) where
   pub table-typed : (l : List Purse) (v : Val) → Is Table l (v ∷ []) → Holds (hasTy (tyArray T′.mir 32) v) × WT v
