@@ -95,22 +95,32 @@ static void collide(Held *held, bool worst) {
     }
 }
 
+/* The details with a payee's number by which every key looked for is found among those of log_all's archive. */
+static Details keyed_alike(Details d) {
+    static const Details none;
+    d.payeeseq.value += keyed_key(d.payee.value, &none) - keyed_key(d.payee.value, &d);
+    return d;
+}
+
 /* Every log full and the archive full, for the claims figure: each card has its purse's 8 payments to the next one. Paired, the archive has
    the payees' entries of the same payments: 256 pairs, as many as can stand. Else it has the payers' entries of 256 other payments: 512
-   entries whose partner is looked for and stands nowhere. */
+   entries whose partner is looked for and stands nowhere, though its key is found. */
 static void log_all(Held *held, bool paired) {
     Archive *archive = &held->desk.archive;
     for (unsigned i = 0; i < PLACES; i++) {
         unsigned payer = i / LOG_PLACES, payee = (payer + 1) % PURSES, k = i % LOG_PLACES;
+        Details on_card = details(payer, 1 + k, payee, 1 + LOG_PLACES + k, CEILING), other = on_card;
+        if (!paired) {
+            other.payerseq.value += LOG_PLACES;
+            on_card = keyed_alike(on_card);
+            other = keyed_alike(other);
+        }
         Purse *p = &held->table[payer];
-        Details d = details(payer, 1 + k, payee, 1 + LOG_PLACES + k, CEILING);
         p->status = IDLE;
         p->details = (Details){0};
         p->logged = LOG_PLACES;
-        p->log[k] = d;
-        if (!paired)
-            d.payerseq.value += PLACES;
-        archive->places[PLACES - 1 - i] = (Entry){{(uint8_t)(paired ? payee : payer)}, d};
+        p->log[k] = on_card;
+        archive->places[PLACES - 1 - i] = (Entry){{(uint8_t)(paired ? payee : payer)}, other};
     }
     archive->count = PLACES;
 }
