@@ -1,2 +1,4 @@
 pub mod Summed
+pub mod Gathered
+pub mod Partners
 pub mod Unique

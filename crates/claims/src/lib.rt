@@ -1,15 +1,12 @@
-// The claims figure: what is owed to payers, over every matched pair, wherever its two entries stand. One pass over the logs and one over
-// the archive; a pair is counted once, at its payer's entry.
+// The claims figure: what is owed to payers, over every matched pair, wherever its two entries stand. One pass over the entries of all logs and
+// one over the archive; a pair is counted once, at its payer's entry.
 use desk::Archive;
 use desk::Entry;
 use desk::Figure;
 use desk::Held;
-use purse::Details;
 use purse::Name;
 use purse::Purse;
-use table_entries::keyed::found;
-use table_entries::keyed::keys_of;
-use table_records::places::at_most;
+use table_records::places::key;
 use table_records::places::place;
 use table_records::records::in_log;
 ghost use mathlib.Core.Path.{_≡_};
@@ -17,89 +14,94 @@ ghost use mathlib.Core.Bool.{true};
 ghost use mathlib.Core.List.{map};
 ghost use Prim.Native.Nat.{_≤_};
 ghost use lib.ListN.{getD};
-ghost use Rattle.purse.specs.Lists.{every, all, total, sumTo};
+ghost use Rattle.purse.specs.Lists.{every, all, total};
 ghost use Rattle.purse.specs.Purse.{zeroPurse};
-ghost use Rattle.desk.specs.declared.Entry.{Entry};
-ghost use Rattle.rules.specs.Bench.{kept};
 ghost use Rattle.rules.specs.Laid.{heldClaims};
 ghost use Rattle.table_records.specs.Records.{entryKey, collected};
-ghost use Rattle.claims.specs.Claims.{payeeLogged, claimBeside, claimIn, cardClaims, archiveClaims, bounded, logBounded};
+ghost use Rattle.claims.specs.Claims.{logEntries, heldAs, entryClaim, bounded, logFits};
 
-// Whether the payee of these details, p its record, has logged them: in its log, or in the archive.
-fn payee_logged(p: Purse, a: Archive, keys: [u32; 256], d: Details) -> bool
-    requires { ⌜ keys ≡ map entryKey (a .places) ⌝ }
-    ensures { λ r. ⌜ r ≡ payeeLogged p a d ⌝ }
+// The key of each archive place.
+fn keys_of(a: Archive) -> [u32; 256]
+    ensures { λ r. ⌜ r ≡ map entryKey (a .places) ⌝ }
 {
-    if in_log(p, d) {
-        return true;
-    }
-    let payee = d.payee;
-    let e = Entry {
-        by: payee,
-        details: d,
-    };
-    found(a, keys, a.count as usize, e)
-}
-
-// What details add that purse `own` has logged: their amount, where it is their payer and their payee has logged them too.
-fn claim(p: Purse, a: Archive, keys: [u32; 256], own: Name, d: Details) -> u32
-    requires { ⌜ keys ≡ map entryKey (a .places) ⌝ }
-    ensures { λ r. ⌜ r ≡ claimBeside p a (own .0) d ⌝ }
-{
-    if own.0 == d.payer.0 {
-        if payee_logged(p, a, keys, d) {
-            return d.amount.0;
-        }
-    }
-    0
-}
-
-// What the log of a purse adds, p its record.
-fn on_card(table: [Purse; 32], a: Archive, keys: [u32; 256], own: Name, p: Purse) -> u32
-    requires { ⌜ (keys ≡ map entryKey (a .places)) × (all bounded (kept p) ≡ true) ⌝ }
-    ensures { λ r. ⌜ r ≡ total (claimIn table a (own .0)) (kept p) ⌝ }
-{
-    let count = at_most(p.logged as usize, 8);
-    let mut sum: u32 = 0;
+    let mut keys: [u32; 256] = [0; 256];
     let mut i: usize = 0;
-    while i < count {
-        let d = p.log[i];
-        let other = place(d.payee);
-        let payee = table[other];
-        sum += claim(payee, a, keys, own, d);
+    while i < 256 {
+        let e = a.places[i];
+        keys[i] = key(e.by.0, e.details);
         i += 1;
     }
-    sum
+    keys
 }
 
-// What the logs of the first purses add.
-fn on_cards(table: [Purse; 32], a: Archive, keys: [u32; 256], purses: u8) -> u32
-    requires { ⌜ (keys ≡ map entryKey (a .places)) × (purses ≤ 32) × (every purses (λ p. logBounded (getD table p zeroPurse)) ≡ true) ⌝ }
-    ensures { λ r. ⌜ r ≡ sumTo purses (cardClaims table a) ⌝ }
+// The entries of all logs, purse after purse, as the archive would hold them.
+fn logs(table: [Purse; 32], purses: u8) -> Archive
+    requires { ⌜ (purses ≤ 32) × (every purses (λ p. logFits (getD table p zeroPurse)) ≡ true) ⌝ }
+    ensures { λ r. ⌜ r ≡ heldAs (logEntries purses table) ⌝ }
 {
-    let mut sum: u32 = 0;
+    let unused = Entry::zero();
+    let mut places = [unused; 256];
+    let mut n: usize = 0;
     let mut own: u8 = 0;
     while own < purses {
         let p = table[own as usize];
-        sum += on_card(table, a, keys, Name(own), p);
+        let count = p.logged as usize;
+        let mut i: usize = 0;
+        while i < count {
+            let d = p.log[i];
+            let e = Entry {
+                by: Name(own),
+                details: d,
+            };
+            places[n] = e;
+            n += 1;
+            i += 1;
+        }
         own += 1;
     }
-    sum
+    Archive {
+        places: places,
+        count: n as u16,
+    }
 }
 
-// What the archive adds.
-fn in_archive(table: [Purse; 32], a: Archive, keys: [u32; 256]) -> u32
-    requires { ⌜ (keys ≡ map entryKey (a .places)) × (a .count ≤ 256) × (all (λ (e : Entry). bounded (e .details)) (collected a) ≡ true) ⌝ }
-    ensures { λ r. ⌜ r ≡ archiveClaims table a ⌝ }
+// What these entries add: each its amount, where the purse that logged it is its payer, and its payee has logged it too, in its log or in
+// the archive. There it is looked for by its key, and all entries are looked through only where the key is found.
+fn sum(table: [Purse; 32], a: Archive, keys: [u32; 256], es: Archive) -> u32
+    requires { ⌜ (keys ≡ map entryKey (a .places)) × (a .count ≤ 256) × (es .count ≤ 256) × (all bounded (collected es) ≡ true) ⌝ }
+    ensures { λ r. ⌜ r ≡ total (entryClaim table a) (collected es) ⌝ }
 {
-    let count = a.count as usize;
+    let many = a.count as usize;
+    let count = es.count as usize;
     let mut sum: u32 = 0;
     let mut i: usize = 0;
     while i < count {
-        let e = a.places[i];
-        let other = place(e.details.payee);
-        let payee = table[other];
-        sum += claim(payee, a, keys, e.by, e.details);
+        let e = es.places[i];
+        let d = e.details;
+        let other = place(d.payee);
+        let p = table[other];
+        let payer = e.by.0 == d.payer.0;
+        let by = d.payee;
+        let partner = Entry { by: by, details: d };
+        let k = key(d.payee.0, d);
+        let last = if payer { many } else { 0 };
+        let mut hit = false;
+        let mut s: usize = 0;
+        while s < last {
+            hit = hit | (k == keys[s]);
+            s += 1;
+        }
+        let end = if hit { last } else { 0 };
+        let mut logged = in_log(p, d);
+        let mut j: usize = 0;
+        while j < end {
+            let o = a.places[j];
+            logged = logged | partner.same(o);
+            j += 1;
+        }
+        if payer & logged {
+            sum += d.amount.0;
+        }
         i += 1;
     }
     sum
@@ -113,8 +115,9 @@ pub fn claims(held: Held) -> Figure
         let desk = held.desk;
         let a = desk.archive;
         let keys = keys_of(a);
-        let cards = on_cards(table, a, keys, desk.purses);
-        let rest = in_archive(table, a, keys);
+        let on_cards = logs(table, desk.purses);
+        let cards = sum(table, a, keys, on_cards);
+        let rest = sum(table, a, keys, a);
         Figure {
             answer: 0,
             claims: cards + rest,

@@ -4,14 +4,14 @@ use Prim.Native.Nat.{ℕ, zero, suc, _+_, _≤_, _<_}
 use mathlib.Core.Path.{_≡_, refl, _∙_, sym, ap}
 use mathlib.Core.Bool.{Bool, true, false, not, cond}
 use mathlib.Core.Logic.{⊎-elim}
-use mathlib.Core.List.{List, [], _∷_, _++_}
+use mathlib.Core.List.{List, [], _∷_, _++_, map}
 use lib.ListN.{length, getD, take, drop}
 use lib.Seq.{split-at, take-suc}
 use lib.Dec.{ltb, eqb}
 use native.Mathlib.Numerals.{add-one}
 use native.Mathlib.Omega.{arith}
 use borrow.Author.Tests.{ltb-true, ltb-false, eqb-true, eqb-false, lt-ltb, le-ltb, not-true}
-use Rattle.purse.specs.Lists.{all, among, distinct, keep, total, without, sumTo}
+use Rattle.purse.specs.Lists.{all, among, distinct, keep, total, without, sumTo, appendTo}
 use Rattle.purse.proofs.Bools.{and-l, and-r, either, and-i, nor-l, nor-r, not-i, which, refute, together}
 
 -- not once is never
@@ -199,15 +199,14 @@ total-each w v f (x ∷ l) h a = omega (arith, h x (and-l (f x) (all f l) a), to
 pub total-next : {A : Type 0} (w : A → ℕ) (l : List A) (i : ℕ) (z : A) → i < length l → total w (take (i + 1) l) ≡ total w (take i l) + w (getD l i z)
 total-next w l i z h = rw (add-one i, take-suc l i z h) (omega (arith, total-append w (take i l) (getD l i z ∷ [])))
 
+pub total-map : {A B : Type 0} (w : B → ℕ) (f : A → B) (l : List A) → total w (map f l) ≡ total (λ (x : A). w (f x)) l
+total-map w f [] = refl
+total-map w f (x ∷ l) = ap (λ (n : ℕ). w (f x) + n) (total-map w f l)
+
 -- the number of members
 pub total-ones : {A : Type 0} (l : List A) → total (λ (x : A). 1) l ≡ length l
 total-ones [] = refl
 total-ones (x ∷ l) = omega (arith, total-ones l)
-
--- the lists at 0 .. n - 1, one behind the other
-abbrev pub appendTo : {A : Type 0} → ℕ → (ℕ → List A) → List A
-appendTo zero f = []
-appendTo (suc n) f = appendTo n f ++ f n
 
 pub total-append-to : {A : Type 0} (w : A → ℕ) (n : ℕ) (f : ℕ → List A) → total w (appendTo n f) ≡ sumTo n (λ (p : ℕ). total w (f p))
 total-append-to w zero f = refl

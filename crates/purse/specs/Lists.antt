@@ -1,4 +1,4 @@
--- Lists, over any element type: each of a number of places, each member, some member, no two the same, those kept, a sum, one taken out.
+-- Lists, over any element type: each of a number of places, each member, some member, no two the same, those kept, a sum, lists in a row, one taken out.
 use Prim.Native.Nat.{ℕ, zero, suc, _+_, _-_}
 use mathlib.Core.Bool.{Bool, true, false, _&&_, _||_, not, cond}
 use mathlib.Core.List.{List, [], _∷_, _++_}
@@ -38,6 +38,11 @@ total w (x ∷ xs) = w x + total w xs
 abbrev pub sumTo : ℕ → (ℕ → ℕ) → ℕ
 sumTo zero f = 0
 sumTo (suc n) f = sumTo n f + f n
+
+-- the lists at 0 .. n - 1, one behind the other
+abbrev pub appendTo : {A : Type 0} → ℕ → (ℕ → List A) → List A
+appendTo zero f = []
+appendTo (suc n) f = appendTo n f ++ f n
 
 -- without the member at place i: later ones move down one place
 abbrev pub without : {A : Type 0} → ℕ → List A → List A

@@ -15,14 +15,14 @@ use native.Mathlib.Omega.{arith}
 use borrow.Author.Tests.{eqb-true, lt-ltb, ltb-true, le-leb, leb-true, leb-false, not-true}
 use Rattle.purse.specs.declared.Seq.{Seq}
 use Rattle.purse.specs.declared.Details.{Details}
-use Rattle.purse.specs.Lists.{all, distinct, keep, total, sumTo}
+use Rattle.purse.specs.Lists.{all, distinct, keep, total, sumTo, appendTo}
 use Rattle.purse.specs.Details.{maxAmount, sameDetails, named, asPayer, asPayee}
 use Rattle.purse.proofs.Bools.{and-l, and-r, and-i, not-i, refute, which}
 use Rattle.purse.proofs.Lists.{all-each}
 use Rattle.purse.proofs.Payments.{is-named, entry-named, entry-role, as-payer, as-payee}
 use Rattle.purse.proofs.Rules.{Bounds, wf-bounds, wf-log}
 use Rattle.purse.proofs.Log.{log-long}
-use Rattle.purse.proofs.Count.{times-append, times-keep, among-times, distinct-is, total-le, total-ones, appendTo, total-append-to, times-append-to, all-is, sum-le, sum-same, sum-add, sum-one, sum-shares}
+use Rattle.purse.proofs.Count.{times-append, times-keep, among-times, distinct-is, total-le, total-ones, total-append-to, times-append-to, all-is, sum-le, sum-same, sum-add, sum-one, sum-shares}
 use Rattle.desk.specs.declared.Entry.{Entry}
 use Rattle.rules.specs.Bench.{Bench, called, purseAt, kept, archivedBy, loggedBy, hasLogged}
 use Rattle.rules.specs.Table.{inTable, archiveOk, tableOk}

@@ -3,17 +3,14 @@ use desk::Archive;
 use desk::Entry;
 use form::is_entry;
 use form::is_unused;
-use keyed::found;
-use keyed::keys_of;
 use purse::Purse;
 use table_records::places::is_within;
+use table_records::places::key;
 use table_records::places::place;
 use table_records::records::holds;
 ghost use mathlib.Core.Path.{_≡_};
 ghost use Rattle.rules.specs.Laid.{isZeroEntry, placesOk};
 ghost use Rattle.table_records.specs.Records.{entryAlone, entryBeside, collectedOk, entriesOk};
-
-pub mod keyed; // keyed.rt: an entry looked for by its key
 
 // The purses that an entry names.
 fn entry_alone(e: Entry, purses: u8) -> bool
@@ -29,7 +26,8 @@ fn entry_beside(p: Purse, e: Entry, purses: u8) -> bool
     entry_alone(e, purses) & is_entry(e.details, e.by, p.next) & !holds(p, e.details)
 }
 
-// Each entry beside the record of its purse, and against those before it.
+// Each entry beside the record of its purse, and against those before it by its key; all of
+// them are looked through only where the key is found.
 fn collected_ok(table: [Purse; 32], archive: Archive, purses: u8) -> bool
     ensures { λ r. ⌜ r ≡ collectedOk purses table archive ⌝ }
 {
@@ -37,7 +35,7 @@ fn collected_ok(table: [Purse; 32], archive: Archive, purses: u8) -> bool
     if 256 < count {
         return false;
     }
-    let keys = keys_of(archive);
+    let mut keys: [u32; 256] = [0; 256];
     let mut i: usize = 0;
     while i < count {
         let e = archive.places[i];
@@ -46,9 +44,25 @@ fn collected_ok(table: [Purse; 32], archive: Archive, purses: u8) -> bool
         if !entry_beside(by, e, purses) {
             return false;
         }
-        if found(archive, keys, i, e) {
+        let k = key(e.by.0, e.details);
+        let mut hit = false;
+        let mut s: usize = 0;
+        while s < i {
+            hit = hit | (k == keys[s]);
+            s += 1;
+        }
+        let end = if hit { i } else { 0 };
+        let mut again = false;
+        let mut j: usize = 0;
+        while j < end {
+            let o = archive.places[j];
+            again = again | e.same(o);
+            j += 1;
+        }
+        if again {
             return false;
         }
+        keys[i] = k;
         i += 1;
     }
     true

@@ -14,7 +14,7 @@ use native.Mathlib.Omega.{arith}
 use borrow.Author.Tests.{eqb-false, le-leb, lt-leb}
 use Rattle.purse.specs.Lists.{all, among, distinct}
 use Rattle.purse.proofs.Bools.{which, refute, nor-l, nor-r}
-use Rattle.purse.proofs.Lists.{take-map, all-at, all-next, distinct-append, distinct-next}
+use Rattle.purse.proofs.Lists.{all-at, all-next, distinct-append, distinct-next}
 use Rattle.rules.specs.Laid.{placesOk}
 
 -- some that are not apart: nor are more
@@ -94,15 +94,6 @@ module _ {A : Type 0} (same : A → A → Bool) (key : A → ℕ) (alike : (x y 
   pub no-key : (x : A) (l : List A) (ks : List ℕ) (i j k : ℕ) {hit : Bool} → Keyed key l ks i → k ≡ key x → j ≡ i → hit ≡ among eqb k (take j ks) → hit ≡ false → among same x (take i l) ≡ false
   no-key x l ks i j k h e q a f =
       none-keyed x (take i l) (ap (λ (m : ℕ). among eqb m (map key (take i l))) (sym e) ∙ (ap (among eqb k) (sym (h .1)) ∙ (ap (λ (m : ℕ). among eqb k (take m ks)) (sym q) ∙ (sym a ∙ f))))
-
-  -- so the search by key finds just what is there
-  pub keyed-search : (x : A) (l : List A) (n : ℕ) → (among eqb (key x) (take n (map key l)) && among same x (take n l)) ≡ among same x (take n l)
-  keyed-search x l n =
-      rw (take-map key n l)
-      (⊎-elim
-      (λ (e : among eqb (key x) (map key (take n l)) ≡ true). rw e)
-      (λ (e : among eqb (key x) (map key (take n l)) ≡ false). rw (e, none-keyed x (take n l) e))
-      (which (among eqb (key x) (map key (take n l)))))
 
   -- all the keys
   pub keys-all : (l : List A) (ks : List ℕ) → length l ≡ 256 → Keyed key l ks 256 → ks ≡ map key l

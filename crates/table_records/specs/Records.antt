@@ -78,10 +78,6 @@ messageKey m = keyOf (m .kind) (m .details)
 abbrev pub entryKey : Entry → ℕ
 entryKey e = keyOf (e .by .0) (e .details)
 
--- an entry is looked for among the first n places by its key: where the key is found, the places themselves are looked through
-unfoldable pub foundIn : ℕ → List ℕ → List Entry → Entry → Bool
-foundIn n keys l e = among eqb (entryKey e) (take n keys) && among sameEntry e (take n l)
-
 -- a message beside the two records that it names
 unfoldable pub messageBeside : ℕ → Purse → Purse → Message → Bool
 messageBeside n payee payer m = messageAlone n m && payeeOk payee m && payerOk payer m

@@ -9,14 +9,14 @@ use Rattle.desk.specs.Desk.{zeroEntry, sameEntry}
 use Rattle.table_records.specs.Records.{entryKey}
 use Rattle.table_records.proofs.Same.{entry-key}
 use Rattle.table_records.proofs.Asked.{Keyed, key-more, keys-all}
-use Rattle.table_entries.proofs.keyed.keys_of.Statement.{statement}
-use Rattle.table_entries.proofs.keyed.keys_of.Tie as tie
+use Rattle.claims.proofs.keys_of.Statement.{statement}
+use Rattle.claims.proofs.keys_of.Tie as tie
 
 abbrev Inv-loop : tie.InvT-loop
-Inv-loop archive keys₀ i₀ keys i = (i ≤ 256) × Keyed entryKey (archive .places) keys i
+Inv-loop a keys₀ i₀ keys i = (i ≤ 256) × Keyed entryKey (a .places) keys i
 
 abbrev μ-loop : tie.MeasureT-loop
-μ-loop archive keys₀ i₀ keys i = 256 - i
+μ-loop a keys₀ i₀ keys i = 256 - i
 
 long : (start : tie.Start Inv-loop μ-loop) → length (start .args .t1 .places) ≡ 256
 long start = simp length-map at (start .good .0 .1 .1 .0 .1 .0 .1)
