@@ -1,24 +1,26 @@
--- An entry's partner, as the code looks for it: in the log of the payee's record, and in the archive by its key, there only for a payer's entry and
--- only where the key is found. That is whether the payee has logged it.
+-- An entry's partner, as the code looks for it: in the log of the payee's record; and in the archive by its key, there only for a payer's entry that
+-- is not in that log, only where the key is found, and until it is found. That is whether the payee has logged it.
 -- Assumes nothing.
-use Prim.Native.Nat.{ℕ, _≤_, _<_}
-use mathlib.Core.Path.{_≡_, sym, ap, _∙_}
-use mathlib.Core.Bool.{Bool, true, false, _&&_, _||_, cond}
+use Prim.Native.Nat.{ℕ, _+_, _-_, _≤_, _<_}
+use mathlib.Core.Path.{_≡_, refl, sym, ap, _∙_}
+use mathlib.Core.Bool.{Bool, true, false, _&&_, _||_, not, cond}
 use mathlib.Core.Logic.{_⊎_, ⊎-elim}
 use mathlib.Core.List.{List, map}
-use lib.ListN.{length, take, getD}
-use lib.Seq.{getD-take, length-take-le}
+use lib.ListN.{length, take, drop, getD}
+use lib.Seq.{getD-take, length-take-le, take-add}
 use lib.Dec.{eqb}
 use native.Mathlib.Omega.{arith}
 use borrow.Author.Tests.{leb-true}
 use Rattle.purse.specs.declared.Purse.{Purse}
 use Rattle.purse.specs.Lists.{all, among}
 use Rattle.purse.specs.Details.{sameDetails}
-use Rattle.purse.proofs.Lists.{take-map, all-at}
+use Rattle.purse.proofs.Bools.{or-inl, which}
+use Rattle.purse.proofs.Lists.{take-map, all-at, among-append}
 use Rattle.desk.specs.declared.Entry.{Entry}
 use Rattle.desk.specs.declared.Archive.{Archive}
 use Rattle.desk.specs.Desk.{sameEntry}
 use Rattle.rules.specs.Bench.{kept}
+use Rattle.rules.proofs.Kept.{never}
 use Rattle.table_records.specs.Records.{entryKey, collected}
 use Rattle.table_records.proofs.Same.{entry-key}
 use Rattle.table_records.proofs.Asked.{no-key}
@@ -32,21 +34,44 @@ partner e = record { by = e .details .payee; details = e .details }
 abbrev pub Chosen : Bool → ℕ → ℕ → Type 0
 Chosen t n m = ((t ≡ true) × (n ≡ m)) ⊎ ((t ≡ false) × (n ≡ 0))
 
-pub partner-found : (p : Purse) (a : Archive) (keys : List ℕ) (e : Entry) (k last end : ℕ) (payer : Bool) {hit logged found : Bool} → length keys ≡ 256 → keys ≡ map entryKey (a .places) → k ≡ entryKey (partner e) → Chosen payer last (a .count) → hit ≡ among eqb k (take last keys) → Chosen hit end last → found ≡ among sameDetails (e .details) (kept p) → logged ≡ (found || among sameEntry (partner e) (take end (a .places))) → (payer && logged) ≡ (payer && payeeLogged p a (e .details))
-unfolding payeeLogged
-partner-found p a keys e k last end payer {hit} {logged} {found} long is key whose hits looked card done =
-    ⊎-elim
-    (λ w.
-    ap (λ (t : Bool). payer && t)
-    (⊎-elim
-    (λ v. done ∙ (ap (λ (t : Bool). t || among sameEntry (partner e) (take end (a .places))) card ∙ ap (λ (n : ℕ). among sameDetails (e .details) (kept p) || among sameEntry (partner e) (take n (a .places))) (v .1 ∙ w .1)))
-    (λ v.
-    let keyed : take (a .count) keys ≡ map entryKey (take (a .count) (a .places)) = ap (take (a .count)) is ∙ take-map entryKey (a .count) (a .places) in
-    let none : among sameEntry (partner e) (collected a) ≡ false = no-key sameEntry entryKey entry-key (partner e) (a .places) keys (a .count) last k (long, keyed) key (w .1) hits (v .0) in
-    done ∙ (ap (λ (n : ℕ). found || among sameEntry (partner e) (take n (a .places))) (v .1) ∙ (ap (λ (t : Bool). t || false) card ∙ ap (λ (t : Bool). among sameDetails (e .details) (kept p) || t) (sym none))))
-    looked))
-    (λ w. rw (w .0))
-    whose
+-- more places, and it is still there
+still-among : (x : Entry) (l : List Entry) (j n : ℕ) → j ≤ n → among sameEntry x (take j l) ≡ true → among sameEntry x (take n l) ≡ true
+still-among x l j n le h =
+    let k : n ≡ j + (n - j) = omega arith in
+    ap (λ (m : ℕ). among sameEntry x (take m l)) k
+    ∙ (ap (among sameEntry x) (take-add j (n - j) l) ∙ (among-append sameEntry x (take j l) (take (n - j) (drop j l)) ∙ or-inl _ _ h))
+
+module _ (p : Purse) (a : Archive) (keys : List ℕ) (e : Entry) (long : length keys ≡ 256) (is : keys ≡ map entryKey (a .places)) (k last end j : ℕ) (key : k ≡ entryKey (partner e)) (hit found logged : Bool) (hits : hit ≡ among eqb k (take last keys)) (looked : Chosen hit end last) (within : j ≤ end) (done : (j ≡ end) ⊎ (logged ≡ true)) (so-far : logged ≡ (found || among sameEntry (partner e) (take j (a .places)))) where
+  abbrev archived : Bool
+  archived = among sameEntry (partner e) (collected a)
+
+  -- not on the card: all the archive's entries were looked through, or as many as it took, or none since the key is none of theirs
+  in-archive : found ≡ false → last ≡ a .count → logged ≡ archived
+  in-archive off all-keys =
+      let here : logged ≡ among sameEntry (partner e) (take j (a .places)) = so-far ∙ rw off refl in
+      ⊎-elim
+      (λ v.
+      ⊎-elim
+      (λ (d : j ≡ end). here ∙ ap (λ (n : ℕ). among sameEntry (partner e) (take n (a .places))) (d ∙ (v .1 ∙ all-keys)))
+      (λ (y : logged ≡ true). y ∙ sym (still-among (partner e) (a .places) j (a .count) (omega (arith, within, v .1, all-keys)) (sym here ∙ y)))
+      done)
+      (λ v.
+      let keyed : take (a .count) keys ≡ map entryKey (take (a .count) (a .places)) = ap (take (a .count)) is ∙ take-map entryKey (a .count) (a .places) in
+      let none : archived ≡ false = no-key sameEntry entryKey entry-key (partner e) (a .places) keys (a .count) last k (long, keyed) key all-keys hits (v .0) in
+      let first : j ≡ 0 = omega (arith, within, v .1) in
+      here ∙ (ap (λ (n : ℕ). among sameEntry (partner e) (take n (a .places))) first ∙ sym none))
+      looked
+
+  pub partner-found : (payer : Bool) → Chosen (payer && not found) last (a .count) → found ≡ among sameDetails (e .details) (kept p) → (payer && logged) ≡ (payer && payeeLogged p a (e .details))
+  unfolding payeeLogged
+  partner-found false whose card = refl
+  partner-found true whose card =
+      ⊎-elim
+      (λ (on : found ≡ true). so-far ∙ rw (on, sym card ∙ on) refl)
+      (λ (off : found ≡ false).
+      let all-keys : last ≡ a .count = ⊎-elim (λ w. w .1) (λ w. absurd (never (not found) (rw off refl) (w .0))) whose in
+      in-archive off all-keys ∙ rw (sym card ∙ off) refl)
+      (which found)
 
 -- no entry adds more than a legal amount
 pub claim-most : (p : Purse) (a : Archive) (e : Entry) → bounded e ≡ true → claimBeside p a e ≤ 5000000

@@ -6,7 +6,7 @@ ghost use Prim.Native.Nat.{min};
 ghost use Rattle.table_records.specs.Records.{placeOf, keyOf, within};
 
 // The count, or all the places where it is larger.
-pub fn at_most(count: usize, many: usize) -> usize
+pub(crate) fn at_most(count: usize, many: usize) -> usize
     ensures { λ r. ⌜ r ≡ min count many ⌝ }
 {
     if many < count { many } else { count }

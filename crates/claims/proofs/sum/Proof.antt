@@ -1,17 +1,18 @@
 -- Each turn of the outer loop adds one entry; the sum is at most 5,000,000 an entry. The first inner loop looks for the partner's key, the second for the
--- partner itself, among all entries of the archive or among none.
+-- partner itself, among all entries of the archive or among none, until it is found.
 -- Assumes nothing.
 use Prim.Native.Nat.{ℕ, _+_, _*_, _-_, _≤_, _<_}
 use mathlib.Core.Path.{_≡_, refl, sym, ap, _∙_}
-use mathlib.Core.Bool.{Bool, true, _&&_, _||_, or-false, or-assoc, cond}
-use mathlib.Core.Logic.{inl, inr, ⊎-elim}
+use mathlib.Core.Bool.{Bool, true, false, _&&_, _||_, and-true, or-false, or-assoc, cond}
+use mathlib.Core.Logic.{_⊎_, inl, inr, ⊎-elim}
 use lib.ListN.{length, length-map, take, getD}
-use lib.Dec.{eqb}
+use lib.Dec.{ltb, eqb}
 use native.Mathlib.Omega.{arith}
-use borrow.Author.Tests.{leb-true}
+use borrow.Author.Tests.{leb-true, ltb-true, ltb-false}
 use borrow.Author.Needs.{needs}
 use Rattle.purse.specs.declared.Purse.{Purse}
 use Rattle.purse.specs.Lists.{among, total}
+use Rattle.purse.proofs.Bools.{and-l, which}
 use Rattle.purse.proofs.Lists.{among-next}
 use Rattle.purse.proofs.Count.{total-next}
 use Rattle.purse.proofs.Walks.{more-any}
@@ -25,16 +26,16 @@ use Rattle.claims.proofs.sum.Statement.{statement}
 use Rattle.claims.proofs.sum.Tie as tie
 
 abbrev Inv-loop2 : tie.InvT-loop2
-Inv-loop2 table a keys es many count sum i d other p payer partner k last hit₀ s₀ hit s = (last ≤ 256) × (s ≤ last) × (hit ≡ among eqb k (take s keys))
+Inv-loop2 table a keys es many count sum i d other payer partner k carded last hit₀ s₀ hit s = (last ≤ 256) × (s ≤ last) × (hit ≡ among eqb k (take s keys))
 
 abbrev μ-loop2 : tie.MeasureT-loop2
-μ-loop2 table a keys es many count sum i d other p payer partner k last hit₀ s₀ hit s = last - s
+μ-loop2 table a keys es many count sum i d other payer partner k carded last hit₀ s₀ hit s = last - s
 
 abbrev Inv-loop3 : tie.InvT-loop3
-Inv-loop3 table a keys es many count sum i d other payer partner k last hit s end logged₀ j₀ logged j = (end ≤ 256) × (j ≤ end) × (logged ≡ (logged₀ || among sameEntry partner (take j (a .places))))
+Inv-loop3 table a keys es many count sum i d other payer partner k carded last hit s end logged₀ j₀ logged j = (end ≤ 256) × (j ≤ end) × (logged ≡ (carded || among sameEntry partner (take j (a .places))))
 
 abbrev μ-loop3 : tie.MeasureT-loop3
-μ-loop3 table a keys es many count sum i d other payer partner k last hit s end logged₀ j₀ logged j = end - j
+μ-loop3 table a keys es many count sum i d other payer partner k carded last hit s end logged₀ j₀ logged j = end - j
 
 abbrev Inv-loop : tie.InvT-loop
 Inv-loop table a keys es many count sum₀ i₀ sum i = (i ≤ count) × (sum ≡ total (entryClaim table a) (take i (es .places))) × (sum ≤ 5000000 * i)
@@ -75,9 +76,12 @@ array-copy-out-p c = search needs
 key-requires : tie.Need-key-requires Inv-loop2 μ-loop2 Inv-loop3 μ-loop3 Inv-loop μ-loop
 key-requires c κs = search needs
 
+in-log-requires : tie.Need-in-log-requires Inv-loop2 μ-loop2 Inv-loop3 μ-loop3 Inv-loop μ-loop
+in-log-requires c κs = search needs
+
 loop2-holds : tie.Need-loop2-holds Inv-loop2 μ-loop2 Inv-loop3 μ-loop3 Inv-loop μ-loop
 loop2-holds c =
-    let start = c .before .before .before .before .before .before .before .before .before .before .before in
+    let start = c .before .before .before .before .before .before .before .before .before .before .before .before in
     (⊎-elim (λ w. omega (arith, w .1, start .pre .1)) (λ w. omega (arith, w .1)) (c .if1 .came), omega arith, refl)
 
 mul-hit : tie.Need-mul-hit Inv-loop2 μ-loop2 Inv-loop3 μ-loop3 Inv-loop μ-loop
@@ -96,24 +100,26 @@ loop2-again : tie.Need-loop2-again Inv-loop2 μ-loop2 Inv-loop3 μ-loop3 Inv-loo
 loop2-again c =
     let at-loop2 = c .before in
     let chosen = at-loop2 .before in
-    let start = chosen .before .before .before .before .before .before .before .before .before .before .before in (
+    let start = chosen .before .before .before .before .before .before .before .before .before .before .before .before in (
       at-loop2 .loop2 .inv .0,
       omega (arith, c .loop2-test .taken),
-      more-any eqb (chosen .before .key .result) (start .args .t3) (at-loop2 .loop2 .s) 0 (omega (arith, c .loop2-test .taken, at-loop2 .loop2 .inv .0, start .good .1 .1 .0 .1 .0 .1)) (at-loop2 .loop2 .inv .2) refl,
+      more-any eqb (chosen .before .before .key .result) (start .args .t3) (at-loop2 .loop2 .s) 0 (omega (arith, c .loop2-test .taken, at-loop2 .loop2 .inv .0, start .good .1 .1 .0 .1 .0 .1)) (at-loop2 .loop2 .inv .2) refl,
     )
-
-in-log-requires : tie.Need-in-log-requires Inv-loop2 μ-loop2 Inv-loop3 μ-loop3 Inv-loop μ-loop
-in-log-requires c κs = search needs
 
 loop3-holds : tie.Need-loop3-holds Inv-loop2 μ-loop2 Inv-loop3 μ-loop3 Inv-loop μ-loop
 loop3-holds c =
-    (⊎-elim (λ w. omega (arith, w .1, c .before .before .before .loop2 .inv .0)) (λ w. omega (arith, w .1)) (c .before .if2 .came), omega arith, sym (or-false (c .in-log .result)))
+    (⊎-elim (λ w. omega (arith, w .1, c .before .before .loop2 .inv .0)) (λ w. omega (arith, w .1)) (c .if2 .came), omega arith, sym (or-false (c .before .before .before .before .in-log .result)))
+
+looking : (c : tie.In-loop3 Inv-loop2 μ-loop2 Inv-loop3 μ-loop3 Inv-loop μ-loop) → c .before .loop3 .j < c .before .before .if2 .end
+looking c = ltb-true _ _ (and-l _ _ (c .loop3-test .taken))
 
 mul-o : tie.Need-mul-o Inv-loop2 μ-loop2 Inv-loop3 μ-loop3 Inv-loop μ-loop
 mul-o c = search needs
 
 element-copy-out-o : tie.Need-element-copy-out-o Inv-loop2 μ-loop2 Inv-loop3 μ-loop3 Inv-loop μ-loop
-element-copy-out-o c = search needs
+element-copy-out-o c =
+    let less = looking c in
+    omega (arith, less, c .before .loop3 .inv .0)
 
 same-requires : tie.Need-same-requires Inv-loop2 μ-loop2 Inv-loop3 μ-loop3 Inv-loop μ-loop
 same-requires c κs = search needs
@@ -122,21 +128,25 @@ add-j : tie.Need-add-j Inv-loop2 μ-loop2 Inv-loop3 μ-loop3 Inv-loop μ-loop
 add-j c = search needs
 
 loop3-less : tie.Need-loop3-less Inv-loop2 μ-loop2 Inv-loop3 μ-loop3 Inv-loop μ-loop
-loop3-less c = search needs
+loop3-less c =
+    let less = looking (c .before .before) in
+    search needs
 
 loop3-again : tie.Need-loop3-again Inv-loop2 μ-loop2 Inv-loop3 μ-loop3 Inv-loop μ-loop
 loop3-again c =
     let at-loop3 = c .before .before .before in
+    let carded = at-loop3 .before .before .before .before .before .in-log .result in
     let at-loop = at-loop3 .before .before .before .before .before .before .before .before .before .before .before .before .before .before .before in
     let start = at-loop .before in
     let l = start .args .t2 .places in
     let j = at-loop3 .loop3 .j in
     let x : Entry = partner (getD (start .args .t4 .places) (at-loop .loop .i) zeroEntry) in
-    let inside : j < length l = omega (arith, c .before .before .loop3-test .taken, at-loop3 .loop3 .inv .0, long start) in (
+    let less = looking (c .before .before) in
+    let inside : j < length l = omega (arith, less, at-loop3 .loop3 .inv .0, long start) in (
       at-loop3 .loop3 .inv .0,
-      omega (arith, c .before .before .loop3-test .taken),
+      omega (arith, less),
       rw (at-loop3 .loop3 .inv .2, c .same .ensures)
-          (or-assoc (at-loop3 .before .in-log .result) (among sameEntry x (take j l)) (sameEntry x (getD l j zeroEntry)) ∙ ap (λ (t : Bool). at-loop3 .before .in-log .result || t) (sym (among-next sameEntry x l j zeroEntry inside))),
+          (or-assoc carded (among sameEntry x (take j l)) (sameEntry x (getD l j zeroEntry)) ∙ ap (λ (t : Bool). carded || t) (sym (among-next sameEntry x l j zeroEntry inside))),
     )
 
 -- what the entry adds
@@ -159,22 +169,31 @@ module _ (c : tie.After-loop3 Inv-loop2 μ-loop2 Inv-loop3 μ-loop3 Inv-loop μ-
   finds : (payer && logged) ≡ (payer && payeeLogged (recordOf (start .args .t1) (e .details .payee)) (start .args .t2) (e .details))
   finds =
       let at-loop3 = c .before in
-      let card = at-loop3 .before in
-      let looked = card .before in
+      let looked = at-loop3 .before in
       let at-loop2 = looked .before .before in
       let chosen = at-loop2 .before in
-      let key = chosen .before .key in
-      let other = chosen .before .before .before .before .before .before .place in
+      let card = chosen .before in
+      let key = card .before .key in
+      let other = card .before .before .before .before .before .before .place in
       let a = start .args .t2 in
       let keys = start .args .t3 in
       let all-keys : at-loop2 .loop2 .s ≡ chosen .if1 .last = omega (arith, at-loop2 .loop2 .inv .1, looked .before .loop2-test .left) in
-      let all-places : at-loop3 .loop3 .j ≡ looked .if2 .end = omega (arith, at-loop3 .loop3 .inv .1, c .loop3-test .left) in
-      partner-found _ a keys e (key .result) (chosen .if1 .last) (looked .if2 .end) payer (start .good .1 .1 .0 .1 .0 .1) (start .pre .0) (key .ensures)
-      (⊎-elim (λ w. inl (w .0 .taken, w .1)) (λ w. inr (w .0 .left, w .1)) (chosen .if1 .came))
+      let done : (at-loop3 .loop3 .j ≡ looked .if2 .end) ⊎ (logged ≡ true) =
+      ⊎-elim
+      (λ (y : logged ≡ true). inr y)
+      (λ (n : logged ≡ false).
+      let past : looked .if2 .end ≤ at-loop3 .loop3 .j = ltb-false _ _ (rw (n, and-true (ltb (at-loop3 .loop3 .j) (looked .if2 .end))) at (c .loop3-test .left)) in
+      inl (omega (arith, past, at-loop3 .loop3 .inv .1)))
+      (which logged) in
+      partner-found _ a keys e (start .good .1 .1 .0 .1 .0 .1) (start .pre .0) (key .result) (chosen .if1 .last) (looked .if2 .end) (at-loop3 .loop3 .j) (key .ensures) (at-loop2 .loop2 .hit) (card .in-log .result) logged
       (at-loop2 .loop2 .inv .2 ∙ ap (λ (n : ℕ). among eqb (key .result) (take n keys)) all-keys)
       (⊎-elim (λ w. inl (w .0 .taken, w .1)) (λ w. inr (w .0 .left, w .1)) (looked .if2 .came))
+      (at-loop3 .loop3 .inv .1)
+      done
+      (at-loop3 .loop3 .inv .2)
+      payer
+      (⊎-elim (λ w. inl (w .0 .taken, w .1)) (λ w. inr (w .0 .left, w .1)) (chosen .if1 .came))
       (card .in-log .ensures)
-      (at-loop3 .loop3 .inv .2 ∙ ap (λ (n : ℕ). card .in-log .result || among sameEntry (partner e) (take n (a .places))) all-places)
       ∙ ap (λ (q : Purse). payer && payeeLogged q a (e .details)) (looked-up (start .args .t1) (e .details .payee) (other .result) _ (start .good .0 .1 .0 .1) (other .ensures))
 
   adds : cond (payer && logged) (e .details .amount .0) 0 ≡ entryClaim (start .args .t1) (start .args .t2) e
@@ -237,13 +256,13 @@ sum-spec =
     mul-p
     array-copy-out-p
     key-requires
+    in-log-requires
     loop2-holds
     mul-hit
     array-read-hit
     add-s
     loop2-less
     loop2-again
-    in-log-requires
     loop3-holds
     mul-o
     element-copy-out-o
