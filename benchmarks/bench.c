@@ -496,7 +496,7 @@ static const struct { const char *name; unsigned call, size, many; } FIGURES[] =
     {"claims_empty", CLAIMS, EMPTY, 0},
     {"claims_middling", CLAIMS, MIDDLING, 0},
     {"claims_full", CLAIMS, FULL, 0},
-    {"claims", CLAIMS, PAIRED, 0},
+    {"claims_paired", CLAIMS, PAIRED, 0},
     {"claims_alone", CLAIMS, ALONE, 0},
     {"card_step_empty", CARD_STEP, EMPTY, 1},
     {"card_step", CARD_STEP, FULL, 1},
