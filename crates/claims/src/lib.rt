@@ -84,8 +84,8 @@ fn sum(table: [Purse; 32], a: Archive, keys: [u32; 256], es: Archive) -> u32
         let by = d.payee;
         let partner = Entry { by: by, details: d };
         let k = key(d.payee.0, d);
-        let carded = in_log(p, d);
-        let last = if payer & !carded { many } else { 0 };
+        let on_card = in_log(p, d);
+        let last = if payer & !on_card { many } else { 0 };
         let mut hit = false;
         let mut s: usize = 0;
         while s < last {
@@ -93,7 +93,7 @@ fn sum(table: [Purse; 32], a: Archive, keys: [u32; 256], es: Archive) -> u32
             s += 1;
         }
         let end = if hit { last } else { 0 };
-        let mut logged = carded;
+        let mut logged = on_card;
         let mut j: usize = 0;
         while (j < end) & !logged {
             let o = a.places[j];

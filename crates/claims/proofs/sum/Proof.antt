@@ -26,16 +26,16 @@ use Rattle.claims.proofs.sum.Statement.{statement}
 use Rattle.claims.proofs.sum.Tie as tie
 
 abbrev Inv-loop2 : tie.InvT-loop2
-Inv-loop2 table a keys es many count sum i d other payer partner k carded last hit₀ s₀ hit s = (last ≤ 256) × (s ≤ last) × (hit ≡ among eqb k (take s keys))
+Inv-loop2 table a keys es many count sum i d other payer partner k on-card last hit₀ s₀ hit s = (last ≤ 256) × (s ≤ last) × (hit ≡ among eqb k (take s keys))
 
 abbrev μ-loop2 : tie.MeasureT-loop2
-μ-loop2 table a keys es many count sum i d other payer partner k carded last hit₀ s₀ hit s = last - s
+μ-loop2 table a keys es many count sum i d other payer partner k on-card last hit₀ s₀ hit s = last - s
 
 abbrev Inv-loop3 : tie.InvT-loop3
-Inv-loop3 table a keys es many count sum i d other payer partner k carded last hit s end logged₀ j₀ logged j = (end ≤ 256) × (j ≤ end) × (logged ≡ (carded || among sameEntry partner (take j (a .places))))
+Inv-loop3 table a keys es many count sum i d other payer partner k on-card last hit s end logged₀ j₀ logged j = (end ≤ 256) × (j ≤ end) × (logged ≡ (on-card || among sameEntry partner (take j (a .places))))
 
 abbrev μ-loop3 : tie.MeasureT-loop3
-μ-loop3 table a keys es many count sum i d other payer partner k carded last hit s end logged₀ j₀ logged j = end - j
+μ-loop3 table a keys es many count sum i d other payer partner k on-card last hit s end logged₀ j₀ logged j = end - j
 
 abbrev Inv-loop : tie.InvT-loop
 Inv-loop table a keys es many count sum₀ i₀ sum i = (i ≤ count) × (sum ≡ total (entryClaim table a) (take i (es .places))) × (sum ≤ 5000000 * i)
@@ -135,7 +135,7 @@ loop3-less c =
 loop3-again : tie.Need-loop3-again Inv-loop2 μ-loop2 Inv-loop3 μ-loop3 Inv-loop μ-loop
 loop3-again c =
     let at-loop3 = c .before .before .before in
-    let carded = at-loop3 .before .before .before .before .before .in-log .result in
+    let on-card = at-loop3 .before .before .before .before .before .in-log .result in
     let at-loop = at-loop3 .before .before .before .before .before .before .before .before .before .before .before .before .before .before .before in
     let start = at-loop .before in
     let l = start .args .t2 .places in
@@ -146,7 +146,7 @@ loop3-again c =
       at-loop3 .loop3 .inv .0,
       omega (arith, less),
       rw (at-loop3 .loop3 .inv .2, c .same .ensures)
-          (or-assoc carded (among sameEntry x (take j l)) (sameEntry x (getD l j zeroEntry)) ∙ ap (λ (t : Bool). carded || t) (sym (among-next sameEntry x l j zeroEntry inside))),
+          (or-assoc on-card (among sameEntry x (take j l)) (sameEntry x (getD l j zeroEntry)) ∙ ap (λ (t : Bool). on-card || t) (sym (among-next sameEntry x l j zeroEntry inside))),
     )
 
 -- what the entry adds
