@@ -1,21 +1,21 @@
 -- An entry's partner, as the code looks for it: in the log of the payee's record; and in the archive by its key, there only for a payer's entry that
 -- is not in that log, only where the key is found, and until it is found. That is whether the payee has logged it.
 -- Assumes nothing.
-use Prim.Native.Nat.{ℕ, _+_, _-_, _≤_, _<_}
+use Prim.Native.Nat.{ℕ, _≤_, _<_}
 use mathlib.Core.Path.{_≡_, refl, sym, ap, _∙_}
 use mathlib.Core.Bool.{Bool, true, false, _&&_, _||_, not, cond}
 use mathlib.Core.Logic.{_⊎_, ⊎-elim}
 use mathlib.Core.List.{List, map}
-use lib.ListN.{length, take, drop, getD}
-use lib.Seq.{getD-take, length-take-le, take-add}
+use lib.ListN.{length, take, getD}
+use lib.Seq.{getD-take, length-take-le}
 use lib.Dec.{eqb}
 use native.Mathlib.Omega.{arith}
 use borrow.Author.Tests.{leb-true}
 use Rattle.purse.specs.declared.Purse.{Purse}
 use Rattle.purse.specs.Lists.{all, among}
 use Rattle.purse.specs.Details.{sameDetails}
-use Rattle.purse.proofs.Bools.{or-inl, which}
-use Rattle.purse.proofs.Lists.{take-map, all-at, among-append}
+use Rattle.purse.proofs.Bools.{which}
+use Rattle.purse.proofs.Lists.{take-map, all-at, among-more}
 use Rattle.desk.specs.declared.Entry.{Entry}
 use Rattle.desk.specs.declared.Archive.{Archive}
 use Rattle.desk.specs.Desk.{sameEntry}
@@ -24,22 +24,15 @@ use Rattle.rules.proofs.Kept.{never}
 use Rattle.table_records.specs.Records.{entryKey, collected}
 use Rattle.table_records.proofs.Same.{entry-key}
 use Rattle.table_records.proofs.Asked.{no-key}
-use Rattle.claims.specs.Claims.{payeeLogged, claimBeside, bounded}
+use Rattle.claims.specs.Claims.{entryBy, payeeLogged, claimBeside, bounded}
 
 -- the payee's entry of the same details
 abbrev pub partner : Entry → Entry
-partner e = record { by = e .details .payee; details = e .details }
+partner e = entryBy (e .details .payee .0) (e .details)
 
 -- a choice that the code made
 abbrev pub Chosen : Bool → ℕ → ℕ → Type 0
 Chosen t n m = ((t ≡ true) × (n ≡ m)) ⊎ ((t ≡ false) × (n ≡ 0))
-
--- more places, and it is still there
-still-among : (x : Entry) (l : List Entry) (j n : ℕ) → j ≤ n → among sameEntry x (take j l) ≡ true → among sameEntry x (take n l) ≡ true
-still-among x l j n le h =
-    let k : n ≡ j + (n - j) = omega arith in
-    ap (λ (m : ℕ). among sameEntry x (take m l)) k
-    ∙ (ap (among sameEntry x) (take-add j (n - j) l) ∙ (among-append sameEntry x (take j l) (take (n - j) (drop j l)) ∙ or-inl _ _ h))
 
 module _ (p : Purse) (a : Archive) (keys : List ℕ) (e : Entry) (long : length keys ≡ 256) (is : keys ≡ map entryKey (a .places)) (k last end j : ℕ) (key : k ≡ entryKey (partner e)) (hit found logged : Bool) (hits : hit ≡ among eqb k (take last keys)) (looked : Chosen hit end last) (within : j ≤ end) (done : (j ≡ end) ⊎ (logged ≡ true)) (so-far : logged ≡ (found || among sameEntry (partner e) (take j (a .places)))) where
   abbrev archived : Bool
@@ -53,7 +46,7 @@ module _ (p : Purse) (a : Archive) (keys : List ℕ) (e : Entry) (long : length 
       (λ v.
       ⊎-elim
       (λ (d : j ≡ end). here ∙ ap (λ (n : ℕ). among sameEntry (partner e) (take n (a .places))) (d ∙ (v .1 ∙ all-keys)))
-      (λ (y : logged ≡ true). y ∙ sym (still-among (partner e) (a .places) j (a .count) (omega (arith, within, v .1, all-keys)) (sym here ∙ y)))
+      (λ (y : logged ≡ true). y ∙ sym (among-more sameEntry (partner e) (a .places) j (a .count) (omega (arith, within, v .1, all-keys)) (sym here ∙ y)))
       done)
       (λ v.
       let keyed : take (a .count) keys ≡ map entryKey (take (a .count) (a .places)) = ap (take (a .count)) is ∙ take-map entryKey (a .count) (a .places) in

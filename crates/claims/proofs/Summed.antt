@@ -4,7 +4,7 @@
 -- Assumes nothing.
 use Prim.Native.Nat.{ℕ, zero, suc, _+_, _*_, _%_, _≤_, _<_}
 use mathlib.Core.Path.{_≡_, refl, _∙_, sym, ap}
-use mathlib.Core.Bool.{Bool, true, false, _&&_, _||_, cond}
+use mathlib.Core.Bool.{Bool, true, false, _||_, cond}
 use mathlib.Core.Logic.{⊎-elim}
 use mathlib.Core.List.{List, [], _∷_, map}
 use lib.ListN.{length, getD, length-map, length-append}
@@ -12,14 +12,13 @@ use lib.Seq.{getD-take}
 use lib.Dec.{ltb, leb, eqb}
 use native.Mathlib.Omega.{arith}
 use borrow.Author.Tests.{eqb-true, eq-eqb, lt-ltb, ltb-true, le-leb}
-use Rattle.purse.specs.declared.Name.{Name}
 use Rattle.purse.specs.declared.Details.{Details}
 use Rattle.purse.specs.declared.Purse.{Purse}
 use Rattle.purse.specs.Lists.{every, all, among, keep, total, sumTo}
 use Rattle.purse.specs.Details.{sameDetails}
 use Rattle.purse.specs.Purse.{zeroPurse}
 use Rattle.purse.proofs.Bools.{and-l, and-r, and-i, which}
-use Rattle.purse.proofs.Lists.{every-all, all-each, all-append, among-append}
+use Rattle.purse.proofs.Lists.{every-all, all-each, all-append, among-append, all-map}
 use Rattle.purse.proofs.Payments.{is-named, entry-named}
 use Rattle.purse.proofs.Rules.{wf-bounds, wf-log}
 use Rattle.purse.proofs.Log.{log-long}
@@ -40,14 +39,14 @@ use Rattle.table_records.proofs.Same.{turn-number}
 use Rattle.claims.specs.Claims.{entryBy, logEntries, payeeLogged, claimBeside, entryClaim, bounded, logFits}
 
 -- a purse has archived details: the entry is among those collected
-archived-entry : (n : Name) (d : Details) (es : List Entry) → among sameDetails d (archivedBy (n .0) es) ≡ among sameEntry (record { by = n; details = d }) es
+archived-entry : (n : ℕ) (d : Details) (es : List Entry) → among sameDetails d (archivedBy n es) ≡ among sameEntry (entryBy n d) es
 unfolding sameEntry
 archived-entry n d [] = refl
 archived-entry n d (e ∷ es) =
     ⊎-elim
-    (λ (w : eqb (e .by .0) (n .0) ≡ true). rw (w, turn-number (n .0) (e .by .0), w) (ap (λ (t : Bool). sameDetails d (e .details) || t) (archived-entry n d es)))
-    (λ (w : eqb (e .by .0) (n .0) ≡ false). rw (w, turn-number (n .0) (e .by .0), w) (archived-entry n d es))
-    (which (eqb (e .by .0) (n .0)))
+    (λ (w : eqb (e .by .0) n ≡ true). rw (w, turn-number n (e .by .0), w) (ap (λ (t : Bool). sameDetails d (e .details) || t) (archived-entry n d es)))
+    (λ (w : eqb (e .by .0) n ≡ false). rw (w, turn-number n (e .by .0), w) (archived-entry n d es))
+    (which (eqb (e .by .0) n))
 
 -- what each purse has archived, weighed by that purse, is the archive weighed by the logging purses
 by-purse : (w : ℕ → Details → ℕ) (p : ℕ) (es : List Entry) → total (w p) (archivedBy p es) ≡ total (λ (e : Entry). w (e .by .0) (e .details)) (keep (λ (e : Entry). eqb (e .by .0) p) es)
@@ -57,10 +56,6 @@ by-purse w p (e ∷ es) =
     (λ (q : eqb (e .by .0) p ≡ true). rw q (omega (arith, by-purse w p es, ap (λ (k : ℕ). w k (e .details)) (eqb-true (e .by .0) p q))))
     (λ (q : eqb (e .by .0) p ≡ false). rw q (by-purse w p es))
     (which (eqb (e .by .0) p))
-
-all-map : {A B : Type 0} (f : B → Bool) (g : A → B) (l : List A) → all f (map g l) ≡ all (λ (x : A). f (g x)) l
-all-map f g [] = refl
-all-map f g (x ∷ l) = ap (λ (t : Bool). f (g x) && t) (all-map f g l)
 
 module _ (h : Held) (w : heldOk h ≡ true) where
   abbrev b : Bench
@@ -162,7 +157,7 @@ module _ (h : Held) (w : heldOk h ≡ true) where
         ← at-place (d .payee .0) less,
         turn-number p (d .payer .0),
         among-append sameDetails d (kept (purseAt b (d .payee .0))) (archivedBy (d .payee .0) (b .archive)),
-        archived-entry (d .payee) d (b .archive),
+        archived-entry (d .payee .0) d (b .archive),
       )
 
   -- a purse's matched pairs: those of its log and those of its archive entries

@@ -31,7 +31,7 @@ heldAs es = record { places = padded places zeroEntry es; count = length es }
 -- the payee of details, p its record, has logged them: "in the purse or in the archive"
 unfoldable pub payeeLogged : Purse → Archive → Details → Bool
 payeeLogged p a d =
-    among sameDetails d (kept p) || among sameEntry (record { by = d .payee; details = d }) (collected a)
+    among sameDetails d (kept p) || among sameEntry (entryBy (d .payee .0) d) (collected a)
 
 -- an entry adds its amount where the purse that logged it is its payer, and its payee has logged it too
 unfoldable pub claimBeside : Purse → Archive → Entry → ℕ

@@ -1,19 +1,19 @@
 -- Laws of lists, over any element type: each of a number of places, each member, some member, no two the same; by the places, and of
 -- lists one after the other.
 -- Assumes nothing.
-use Prim.Native.Nat.{ℕ, zero, suc, _+_, _≤_, _<_, min}
+use Prim.Native.Nat.{ℕ, zero, suc, _+_, _-_, _≤_, _<_, min}
 use mathlib.Core.Path.{_≡_, refl, _∙_, sym, ap}
 use mathlib.Core.Bool.{Bool, true, false, _&&_, _||_, not, and-true, and-false, and-assoc, or-false, or-assoc}
 use mathlib.Core.Logic.{⊎-elim}
 use mathlib.Core.List.{List, [], _∷_, _++_, map}
-use lib.ListN.{length, take, getD, length-map}
-use lib.Seq.{take-suc, take-all, length-take-le, getD-take}
+use lib.ListN.{length, take, drop, getD, length-map}
+use lib.Seq.{take-suc, take-all, take-add, length-take-le, getD-take}
 use lib.Dec.{ltb, leb}
 use native.Mathlib.Numerals.{add-one}
 use native.Mathlib.Omega.{arith}
 use borrow.Author.Tests.{ltb-true, ltb-false, leb-true, leb-false}
 use Rattle.purse.specs.Lists.{every, all, among, distinct}
-use Rattle.purse.proofs.Bools.{and-l, and-r, and-i, or-inr, which}
+use Rattle.purse.proofs.Bools.{and-l, and-r, and-i, or-inl, or-inr, which}
 
 pub every-at : (f : ℕ → Bool) (n i : ℕ) → every n f ≡ true → i < n → f i ≡ true
 every-at f zero i e h = absurd (omega arith)
@@ -37,6 +37,10 @@ pub take-map : {A B : Type 0} (f : A → B) (n : ℕ) (l : List A) → take n (m
 take-map f zero l = refl
 take-map f (suc n) [] = refl
 take-map {A} {B} f (suc n) (x ∷ l) = ap (λ (r : List B). f x ∷ r) (take-map f n l)
+
+pub all-map : {A B : Type 0} (f : B → Bool) (g : A → B) (l : List A) → all f (map g l) ≡ all (λ (x : A). f (g x)) l
+all-map f g [] = refl
+all-map f g (x ∷ l) = ap (λ (t : Bool). f (g x) && t) (all-map f g l)
 
 module _ {A : Type 0} where
   -- at a place of the list it is no matter what stands past its end
@@ -92,6 +96,13 @@ module _ {A : Type 0} where
   among-append same x [] t = refl
   among-append same x (y ∷ s) t =
       ap (λ (b : Bool). same x y || b) (among-append same x s t) ∙ sym (or-assoc (same x y) (among same x s) (among same x t))
+
+  -- what is among the first places is among more
+  pub among-more : (same : A → A → Bool) (x : A) (l : List A) (j n : ℕ) → j ≤ n → among same x (take j l) ≡ true → among same x (take n l) ≡ true
+  among-more same x l j n h e =
+      let k : n ≡ j + (n - j) = omega arith in
+      ap (λ (m : ℕ). among same x (take m l)) k
+      ∙ (ap (among same x) (take-add j (n - j) l) ∙ (among-append same x (take j l) (take (n - j) (drop j l)) ∙ or-inl _ _ e))
 
   pub all-next : (f : A → Bool) (l : List A) (i : ℕ) (z : A) → i < length l → all f (take (i + 1) l) ≡ (all f (take i l) && f (getD l i z))
   all-next f l i z h =

@@ -54,7 +54,7 @@ two-parts {A} w f g (x ∷ l) h =
     (which (f x))
 
 -- a legal amount each
-pub amounts-most : (l : List Details) → all (λ (d : Details). leb (amountOf d) maxAmount) l ≡ true → total amountOf l ≤ 5000000 * length l
+amounts-most : (l : List Details) → all (λ (d : Details). leb (amountOf d) maxAmount) l ≡ true → total amountOf l ≤ 5000000 * length l
 amounts-most [] h = omega arith
 amounts-most (d ∷ l) h =
     omega (arith, leb-true (amountOf d) maxAmount (and-l (leb (amountOf d) maxAmount) (all (λ (d : Details). leb (amountOf d) maxAmount) l) h), amounts-most l (and-r (leb (amountOf d) maxAmount) (all (λ (d : Details). leb (amountOf d) maxAmount) l) h))
@@ -198,7 +198,7 @@ module _ (b : Bench) (ok : tableOk b ≡ true) where
         is-named d (logged-entry p l d h) .apart
         (eqb-true _ _ (and-l (eqb (d .payer .0) p) (eqb (d .payee .0) p) e) ∙ sym (eqb-true _ _ (and-r (eqb (d .payer .0) p) (eqb (d .payee .0) p) e))))))))
 
-    pub twice-matched : of-matched + of-matched ≤ sumTo n (λ (p : ℕ). total w (loggedBy b p))
+    twice-matched : of-matched + of-matched ≤ sumTo n (λ (p : ℕ). total w (loggedBy b p))
     twice-matched = omega (arith, of-payees, of-payers, both, sum-add n (λ (p : ℕ). total w (pays p)) (λ (p : ℕ). total w (gets p)))
 
   -- each archive entry's logging purse is one of the table

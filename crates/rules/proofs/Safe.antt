@@ -59,19 +59,17 @@ module _ (opening : ℕ → ℕ) (b : Bench) (P A : List Details) (h : History o
   abbrev n : ℕ
   n = length (b .purses)
 
-  -- of payments that were paid, each has one payer and one payee in the table
+  -- payments that were paid, told by a purse that each names: each is told once
+  by-name : (f : Details → ℕ) → ((d : Details) → 1 ≤ countD d P → f d < n) → (l : List Details) → ((d : Details) → countD d l ≤ countD d P) → sumTo n (λ (p : ℕ). total amountOf (keep (λ (d : Details). eqb (f d) p) l)) ≡ total amountOf l
+  by-name f placed l k =
+      sum-shares amountOf f n l
+      (all-is sameDetails details-equal details-same (λ (d : Details). ltb (f d) n) l (λ (d : Details) (c : 1 ≤ countD d l). lt-ltb _ _ (placed d (omega (arith, k d)))))
+
   by-payers : (l : List Details) → ((d : Details) → countD d l ≤ countD d P) → sumTo n (λ (p : ℕ). paidOut p l) ≡ total amountOf l
-  by-payers l k =
-      sum-shares amountOf (λ (d : Details). d .payer .0) n l
-      (all-is sameDetails details-equal details-same (λ (d : Details). ltb (d .payer .0) n) l (λ (d : Details) (c : 1 ≤ countD d l). lt-ltb _ _ (h .placed d (omega (arith, k d)) .payer)))
+  by-payers = by-name (λ (d : Details). d .payer .0) (λ (d : Details) (c : 1 ≤ countD d P). h .placed d c .payer)
 
   by-payees : (l : List Details) → ((d : Details) → countD d l ≤ countD d P) → sumTo n (λ (p : ℕ). takenIn p l) ≡ total amountOf l
-  by-payees l k =
-      sum-shares amountOf (λ (d : Details). d .payee .0) n l
-      (all-is sameDetails details-equal details-same (λ (d : Details). ltb (d .payee .0) n) l (λ (d : Details) (c : 1 ≤ countD d l). lt-ltb _ _ (h .placed d (omega (arith, k d)) .payee)))
-
-  paid-in : (d : Details) → countD d P ≤ countD d P
-  paid-in d = omega arith
+  by-payees = by-name (λ (d : Details). d .payee .0) (λ (d : Details) (c : 1 ≤ countD d P). h .placed d c .payee)
 
   arrived-in : (d : Details) → countD d A ≤ countD d P
   arrived-in d = h .counts d .within
@@ -80,7 +78,7 @@ module _ (opening : ℕ → ℕ) (b : Bench) (P A : List Details) (h : History o
   in-balance =
       omega (
         arith,
-        by-payers P paid-in,
+        by-payers P (λ (d : Details). omega arith),
         by-payees A arrived-in,
         sum-same n (λ (p : ℕ). balanceAt b p + paidOut p P) (λ (p : ℕ). opening p + takenIn p A) (h .money),
         sum-add n (balanceAt b) (λ (p : ℕ). paidOut p P),

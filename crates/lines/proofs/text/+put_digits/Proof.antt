@@ -9,11 +9,12 @@ use borrow.Author.Needs.{needs}
 use Prim.Native.Nat.{ℕ, _<_, _-_, _/_}
 use borrow.Fn.Kinds.{In}
 use borrow.Fn.PlainCycle.{Measures, is, falls, and}
+-- it calls itself, so its obligations are those of its steps, at each measure
 use Rattle.lines.proofs.text.put_digits.Reads as put-digits
 use Rattle.lines.proofs.text.digit.Reads as digit
 use Rattle.lines.proofs.numbers.put_byte.Reads as put-byte
 use Rattle.lines.proofs.text.put_digits.Kinds as put-digits-kinds
-use Rattle.lines.proofs.text.+put_digits.Lts-put_digits as put-digits-lts
+use Rattle.lines.proofs.text.+put_digits.Lts-put_digits as steps
 use Rattle.lines.proofs.text.+put_digits.{statement}
 use Rattle.lines.proofs.text.+put_digits.Tie.{close}
 
@@ -29,21 +30,21 @@ abbrev put-digits-below : ℕ → In 1 put-digits-kinds.ps
 put-digits-below t =
     and 1 put-digits-kinds.ps (falls 1 put-digits-kinds.ps _<_ μ-put-digits t) put-digits.Pre
 
-put-digits-returns : (t : ℕ) → put-digits-lts.Need-returns (digit.Asked, digit.Learnt, put-byte.Asked, put-byte.Learnt, put-digits-below t, put-digits.Post) (put-digits-at t) put-digits.Post
+put-digits-returns : (t : ℕ) → steps.Need-returns (digit.Asked, digit.Learnt, put-byte.Asked, put-byte.Learnt, put-digits-below t, put-digits.Post) (put-digits-at t) put-digits.Post
 put-digits-returns t c =
     let none = digits-none (c .before .before .args .places) (c .before .before .args .n) (c .if1 .taken) in
     (same-bytes (sym none) (put-nothing _ _), search needs)
 
-put-digits-digit-requires : (t : ℕ) → put-digits-lts.Need-digit-requires (digit.Asked, digit.Learnt, put-byte.Asked, put-byte.Learnt, put-digits-below t, put-digits.Post) (put-digits-at t) put-digits.Post
+put-digits-digit-requires : (t : ℕ) → steps.Need-digit-requires (digit.Asked, digit.Learnt, put-byte.Asked, put-byte.Learnt, put-digits-below t, put-digits.Post) (put-digits-at t) put-digits.Post
 put-digits-digit-requires t c κs = search needs
 
-put-digits-put-byte-requires : (t : ℕ) → put-digits-lts.Need-put-byte-requires (digit.Asked, digit.Learnt, put-byte.Asked, put-byte.Learnt, put-digits-below t, put-digits.Post) (put-digits-at t) put-digits.Post
+put-digits-put-byte-requires : (t : ℕ) → steps.Need-put-byte-requires (digit.Asked, digit.Learnt, put-byte.Asked, put-byte.Learnt, put-digits-below t, put-digits.Post) (put-digits-at t) put-digits.Post
 put-digits-put-byte-requires t c κs = search needs
 
-put-digits-same-length : (t : ℕ) → put-digits-lts.Need-same-length (digit.Asked, digit.Learnt, put-byte.Asked, put-byte.Learnt, put-digits-below t, put-digits.Post) (put-digits-at t) put-digits.Post
+put-digits-same-length : (t : ℕ) → steps.Need-same-length (digit.Asked, digit.Learnt, put-byte.Asked, put-byte.Learnt, put-digits-below t, put-digits.Post) (put-digits-at t) put-digits.Post
 put-digits-same-length t c = search needs
 
-put-digits-returns-2 : (t : ℕ) → put-digits-lts.Need-returns-2 (digit.Asked, digit.Learnt, put-byte.Asked, put-byte.Learnt, put-digits-below t, put-digits.Post) (put-digits-at t) put-digits.Post
+put-digits-returns-2 : (t : ℕ) → steps.Need-returns-2 (digit.Asked, digit.Learnt, put-byte.Asked, put-byte.Learnt, put-digits-below t, put-digits.Post) (put-digits-at t) put-digits.Post
 put-digits-returns-2 t c =
     let called = c .before .before in
     let digit-called = called .before .before in
@@ -51,22 +52,22 @@ put-digits-returns-2 t c =
     let one = digits-one (start .args .places) (start .args .n) (digit-called .before .before .if1 .left) (digit-called .before .if2 .taken) in
     (same-bytes (ap (λ (v : ℕ). v ∷ []) (digit-called .digit .ensures) ∙ sym one) (one-byte (called .put-byte .ensures)), search needs)
 
-put-digits-sub-put-digits : (t : ℕ) → put-digits-lts.Need-sub-put-digits (digit.Asked, digit.Learnt, put-byte.Asked, put-byte.Learnt, put-digits-below t, put-digits.Post) (put-digits-at t) put-digits.Post
+put-digits-sub-put-digits : (t : ℕ) → steps.Need-sub-put-digits (digit.Asked, digit.Learnt, put-byte.Asked, put-byte.Learnt, put-digits-below t, put-digits.Post) (put-digits-at t) put-digits.Post
 put-digits-sub-put-digits t c = search needs
 
-put-digits-put-digits-requires : (t : ℕ) → put-digits-lts.Need-put-digits-requires (digit.Asked, digit.Learnt, put-byte.Asked, put-byte.Learnt, put-digits-below t, put-digits.Post) (put-digits-at t) put-digits.Post
+put-digits-put-digits-requires : (t : ℕ) → steps.Need-put-digits-requires (digit.Asked, digit.Learnt, put-byte.Asked, put-byte.Learnt, put-digits-below t, put-digits.Post) (put-digits-at t) put-digits.Post
 put-digits-put-digits-requires t c κs = search needs
 
-put-digits-digit-requires-2 : (t : ℕ) → put-digits-lts.Need-digit-requires-2 (digit.Asked, digit.Learnt, put-byte.Asked, put-byte.Learnt, put-digits-below t, put-digits.Post) (put-digits-at t) put-digits.Post
+put-digits-digit-requires-2 : (t : ℕ) → steps.Need-digit-requires-2 (digit.Asked, digit.Learnt, put-byte.Asked, put-byte.Learnt, put-digits-below t, put-digits.Post) (put-digits-at t) put-digits.Post
 put-digits-digit-requires-2 t c κs = search needs
 
-put-digits-put-byte-requires-2 : (t : ℕ) → put-digits-lts.Need-put-byte-requires-2 (digit.Asked, digit.Learnt, put-byte.Asked, put-byte.Learnt, put-digits-below t, put-digits.Post) (put-digits-at t) put-digits.Post
+put-digits-put-byte-requires-2 : (t : ℕ) → steps.Need-put-byte-requires-2 (digit.Asked, digit.Learnt, put-byte.Asked, put-byte.Learnt, put-digits-below t, put-digits.Post) (put-digits-at t) put-digits.Post
 put-digits-put-byte-requires-2 t c κs = search needs
 
-put-digits-same-length-2 : (t : ℕ) → put-digits-lts.Need-same-length-2 (digit.Asked, digit.Learnt, put-byte.Asked, put-byte.Learnt, put-digits-below t, put-digits.Post) (put-digits-at t) put-digits.Post
+put-digits-same-length-2 : (t : ℕ) → steps.Need-same-length-2 (digit.Asked, digit.Learnt, put-byte.Asked, put-byte.Learnt, put-digits-below t, put-digits.Post) (put-digits-at t) put-digits.Post
 put-digits-same-length-2 t c = search needs
 
-put-digits-returns-3 : (t : ℕ) → put-digits-lts.Need-returns-3 (digit.Asked, digit.Learnt, put-byte.Asked, put-byte.Learnt, put-digits-below t, put-digits.Post) (put-digits-at t) put-digits.Post
+put-digits-returns-3 : (t : ℕ) → steps.Need-returns-3 (digit.Asked, digit.Learnt, put-byte.Asked, put-byte.Learnt, put-digits-below t, put-digits.Post) (put-digits-at t) put-digits.Post
 put-digits-returns-3 t c =
     let called = c .before .before in
     let digit-called = called .before .before in
@@ -82,7 +83,7 @@ put-digits-returns-3 t c =
     )
 
 pub +put-digits-spec : {M : Type 1} → statement M
-+put-digits-spec = close μ-put-digits λ t. put-digits-lts.spec (digit.Asked, digit.Learnt, put-byte.Asked, put-byte.Learnt, put-digits-below t, put-digits.Post)
++put-digits-spec = close μ-put-digits λ t. steps.spec (digit.Asked, digit.Learnt, put-byte.Asked, put-byte.Learnt, put-digits-below t, put-digits.Post)
     (put-digits-at t)
     put-digits.Post
     (put-digits-returns t)
