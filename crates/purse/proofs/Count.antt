@@ -228,6 +228,15 @@ pub sum-add : (n : ℕ) (f g : ℕ → ℕ) → sumTo n (λ (p : ℕ). f p + g p
 sum-add zero f g = refl
 sum-add (suc n) f g = omega (arith, sum-add n f g)
 
+-- past n there is nothing
+pub sum-beyond : (n k : ℕ) (f : ℕ → ℕ) → n ≤ k → ((p : ℕ) → n ≤ p → f p ≡ 0) → sumTo k f ≡ sumTo n f
+sum-beyond n zero f l h = let e : n ≡ 0 = omega arith in rw e
+sum-beyond n (suc k) f l h =
+    ⊎-elim
+    (λ (a : ltb k n ≡ true). let e : n ≡ suc k = omega (arith, ltb-true k n a) in rw e)
+    (λ (a : ltb k n ≡ false). omega (arith, sum-beyond n k f (ltb-false k n a) h, h k (ltb-false k n a)))
+    (which (ltb k n))
+
 -- one name's share
 pub sum-one : (n k v : ℕ) → sumTo n (λ (p : ℕ). cond (eqb k p) v 0) ≡ cond (ltb k n) v 0
 sum-one zero k v = rw (le-ltb k 0 (omega arith))

@@ -18,16 +18,16 @@ use Rattle.purse.specs.declared.Message.{Message}
 use Rattle.purse.specs.declared.Purse.{Purse}
 use Rattle.purse.specs.declared.CardAnswer.{CardAnswer}
 use Rattle.purse.specs.declared.CardEvent.{CardEvent}
-use Rattle.purse.specs.declared.CardEvent.the-variants.{StartFrom, StartTo, Deliver, Abort, Collect}
+use Rattle.purse.specs.declared.CardEvent.the-variants.{StartFrom, StartTo, Deliver, Abort, Collect, Load}
 use Rattle.purse.specs.Details.{zeroDetails, sameDetails, named, asPayer, asPayee, entryOk}
 use Rattle.purse.specs.Purse.{idleOk, boundsOk, paysOk, getsOk, busyOk, logOk, wellFormed, epr, epv}
-use Rattle.purse.specs.Step.{fromNumber, toNumber, begunWith, idleWith, stopped, taken, movedDown, delivered, deliverNumber, collectNumber, startFrom, startTo, deliverTo, abortBy, collectBy, fromDetails, toDetails, aborted, abortNumber}
+use Rattle.purse.specs.Step.{fromNumber, toNumber, begunWith, idleWith, stopped, taken, movedDown, delivered, deliverNumber, collectNumber, startFrom, startTo, deliverTo, abortBy, collectBy, fromDetails, toDetails, aborted, abortNumber, raised, loadNumber, loadBy}
 use Rattle.purse.specs.Card.{stepBy}
 use Rattle.purse.proofs.Bools.{and-l, and-r, no-and, or-l, either, and-i, or-inl, or-inr, which}
 use Rattle.purse.proofs.Payments.{named-is, Legal, is-legal, same-sym, zero-same, payer-is, payee-is, fresh-payer, fresh-payee, fresh-zero, absent-at, absent-is}
 use Rattle.purse.proofs.Log.{Used, withThese, log-kept, log-same, log-is, moved, log-long, used-at, unused-at}
-use Rattle.purse.proofs.Rules.{Bounds, bounds-is, well-busy, well-idle, busy-entry, idle-is, busy, busy-parts, room, wf-log, wf-bounds}
-use Rattle.purse.proofs.Steps.{expected-status, deliver-passed, deliver-get, collect-some, Paying, Taking, ready-from, ready-to, within, beneath}
+use Rattle.purse.proofs.Rules.{Bounds, bounds-is, well-busy, well-idle, busy-entry, idle-is, busy, idle, busy-parts, room, wf-log, wf-bounds}
+use Rattle.purse.proofs.Steps.{expected-status, deliver-passed, deliver-get, collect-some, Raises, load-passed, Paying, Taking, ready-from, ready-to, within, beneath}
 
 pub keep-from : (p : Purse) (own other : Name) (s : Seq) (a : Amount) → fromNumber p own other a ≡ 0 → wellFormed own (begunWith epr (fromDetails p own other s a) p) ≡ true
 unfolding busyOk
@@ -211,6 +211,16 @@ module _ (p : Purse) (own : Name) (o : 0 < p .logged) (w : wellFormed own p ≡ 
       (either (idleOk p) (busyOk own p) (and-r (boundsOk p) (idleOk p || busyOk own p) (and-l (boundsOk p && (idleOk p || busyOk own p)) (logOk own p) w)))))
       lg
 
+-- an idle purse with a higher balance
+pub keep-raised : (p : Purse) (own : Name) (a : Amount) → Raises p a → wellFormed own p ≡ true → wellFormed own (raised a p) ≡ true
+unfolding idleOk
+keep-raised p own a r w =
+    let k : Bounds p = wf-bounds own p w in
+    well-idle own (raised a p)
+    (record { balance = r .room; next = k .next; logged = k .logged })
+    (idle own p w (r .idle))
+    (log-same own p (raised a p) refl refl refl refl (wf-log own p w))
+
 -- each step: its number is 0 and the new purse is well formed, or it refuses and the purse is the same
 pub by-number : (own : Name) (n : ℕ) (a b : CardAnswer) → (n ≡ 0 → wellFormed own (a .purse) ≡ true) → wellFormed own (b .purse) ≡ true → wellFormed own (cond (eqb n 0) a b .purse) ≡ true
 by-number own n a b f g =
@@ -261,6 +271,10 @@ pub keep-collect : (p : Purse) (own : Name) → wellFormed own p ≡ true → we
 unfolding collectBy
 keep-collect p own w = by-number own (collectNumber p own) _ _ (λ z. keep-taken p own (collect-some p own z) w) w
 
+pub keep-load : (p : Purse) (own : Name) (a : Amount) → wellFormed own p ≡ true → wellFormed own (loadBy p own a .purse) ≡ true
+unfolding loadBy
+keep-load p own a w = by-number own (loadNumber p own a) _ _ (λ z. keep-raised p own a (load-passed p own a z) w) w
+
 -- whatever a card is told, a well-formed purse stays well formed
 pub keep-step : (p : Purse) (own : Name) (v : CardEvent) → wellFormed own p ≡ true → wellFormed own (stepBy p own v .purse) ≡ true
 keep-step p own (StartFrom other s a) w = keep-start-from p own other s a w
@@ -268,3 +282,4 @@ keep-step p own (StartTo other s a) w = keep-start-to p own other s a w
 keep-step p own (Deliver m) w = keep-deliver p own m w
 keep-step p own Abort w = keep-abort p own w
 keep-step p own Collect w = keep-collect p own w
+keep-step p own (Load a) w = keep-load p own a w

@@ -1,20 +1,21 @@
--- The balance changes at a delivered request and a delivered value alone, by the message's amount: what each accepted step does to it
+-- The balance changes at a delivered request, a delivered value and a load alone, by the amount: what each accepted step does to it
 -- is read off the definitions, and a refused one leaves the purse as it was. Assumes nothing.
 use Prim.Native.Nat.{ℕ, _+_}
-use mathlib.Core.Path.{_≡_, refl, _∙_}
+use mathlib.Core.Path.{_≡_, refl, _∙_, ap}
 use mathlib.Core.Bool.{Bool, true, false}
 use mathlib.Core.Logic.{⊎-elim}
 use lib.Dec.{eqb}
 use native.Mathlib.Omega.{arith}
 use borrow.Author.Tests.{eq-eqb, ne-eqb}
 use Rattle.purse.specs.declared.Name.{Name}
+use Rattle.purse.specs.declared.Amount.{Amount}
 use Rattle.purse.specs.declared.Message.{Message}
 use Rattle.purse.specs.declared.Purse.{Purse}
 use Rattle.purse.specs.declared.CardAnswer.{CardAnswer}
 use Rattle.purse.specs.declared.CardEvent.{CardEvent}
-use Rattle.purse.specs.declared.CardEvent.the-variants.{StartFrom, StartTo, Deliver, Abort, Collect}
+use Rattle.purse.specs.declared.CardEvent.the-variants.{StartFrom, StartTo, Deliver, Abort, Collect, Load}
 use Rattle.purse.specs.Details.{sameDetails}
-use Rattle.purse.specs.Step.{unless, expected, idleWith, stopped, aborted, paid, received, settled, delivered, deliverNumber, fromNumber, toNumber, abortNumber, collectNumber, startFrom, startTo, deliverTo, abortBy, collectBy}
+use Rattle.purse.specs.Step.{unless, expected, idleWith, stopped, aborted, paid, received, settled, delivered, deliverNumber, fromNumber, toNumber, abortNumber, collectNumber, startFrom, startTo, deliverTo, abortBy, collectBy, loadNumber, loadBy}
 use Rattle.purse.specs.Card.{stepBy}
 use Rattle.purse.proofs.Bools.{and-l, which}
 use Rattle.purse.proofs.Payments.{is-same}
@@ -34,15 +35,17 @@ module _ {A : Type 0} (f : Purse → A) (p : Purse) where
       ⊎-elim (λ (b : eqb (p .status) 1 ≡ true). rw (a, b) g) (λ (b : eqb (p .status) 1 ≡ false). rw (a, b) h) (which (eqb (p .status) 1)))
       (which (eqb (p .status) 0))
 
-abbrev pub delivers : CardEvent → Bool
-delivers (StartFrom other s a) = false
-delivers (StartTo other s a) = false
-delivers (Deliver m) = true
-delivers Abort = false
-delivers Collect = false
+-- a delivery and a load
+abbrev pub moves : CardEvent → Bool
+moves (StartFrom other s a) = false
+moves (StartTo other s a) = false
+moves (Deliver m) = true
+moves Abort = false
+moves Collect = false
+moves (Load a) = true
 
 -- no other event changes the balance, done or refused
-pub balance-stays : (p : Purse) (own : Name) (v : CardEvent) → delivers v ≡ false → stepBy p own v .purse .balance ≡ p .balance
+pub balance-stays : (p : Purse) (own : Name) (v : CardEvent) → moves v ≡ false → stepBy p own v .purse .balance ≡ p .balance
 unfolding startFrom startTo abortBy collectBy
 balance-stays p own (StartFrom other s a) e = unless-keeps (λ (q : Purse). q .balance) p (fromNumber p own other a) _ refl
 balance-stays p own (StartTo other s a) e = unless-keeps (λ (q : Purse). q .balance) p (toNumber p own other a) _ refl
@@ -50,6 +53,7 @@ balance-stays p own (Deliver m) e = absurd (let z : _≡_ {A = ℕ} 0 1 = cc in 
 balance-stays p own Abort e =
     unless-keeps (λ (q : Purse). q .balance) p (abortNumber p own) _ (aborted-keeps (λ (q : Purse). q .balance) p refl refl)
 balance-stays p own Collect e = unless-keeps (λ (q : Purse). q .balance) p (collectNumber p own) _ refl
+balance-stays p own (Load a) e = absurd (let z : _≡_ {A = ℕ} 0 1 = cc in omega arith)
 
 -- a delivery that is done
 module _ (p : Purse) (own : Name) (m : Message) (z : deliverTo p own m .answer ≡ 0) where
@@ -79,3 +83,8 @@ module _ (p : Purse) (own : Name) (m : Message) (z : deliverTo p own m .answer �
   acknowledge-moves-none a b =
       let e : deliverTo p own m ≡ settled p = done-delivery .1 ∙ simp (ne-eqb (m .kind) 1 a, ne-eqb (m .kind) 2 b) in
       rw e refl
+
+-- a load that is done: the balance rises by the amount
+pub load-raises : (p : Purse) (own : Name) (a : Amount) → loadBy p own a .answer ≡ 0 → loadBy p own a .purse .balance .0 ≡ p .balance .0 + a .0
+unfolding loadBy
+load-raises p own a z = ap (λ (x : CardAnswer). x .purse .balance .0) (accepted (loadNumber p own a) p _ refl z .1)

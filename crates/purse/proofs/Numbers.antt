@@ -12,9 +12,9 @@ use Rattle.purse.specs.declared.Amount.{Amount}
 use Rattle.purse.specs.declared.Purse.{Purse}
 use Rattle.purse.specs.declared.CardAnswer.{CardAnswer}
 use Rattle.purse.specs.declared.CardEvent.{CardEvent}
-use Rattle.purse.specs.declared.CardEvent.the-variants.{StartFrom, StartTo, Deliver, Abort, Collect}
+use Rattle.purse.specs.declared.CardEvent.the-variants.{StartFrom, StartTo, Deliver, Abort, Collect, Load}
 use Rattle.purse.specs.Purse.{epr, epv}
-use Rattle.purse.specs.Step.{unless, begunWith, fromDetails, toDetails, delivered, deliverNumber, fromNumber, toNumber, abortNumber, collectNumber, startFrom, startTo, deliverTo, abortBy, collectBy}
+use Rattle.purse.specs.Step.{unless, begunWith, fromDetails, toDetails, delivered, deliverNumber, fromNumber, toNumber, abortNumber, collectNumber, startFrom, startTo, deliverTo, abortBy, collectBy, loadNumber, loadBy}
 use Rattle.purse.specs.Card.{stepBy}
 use Rattle.purse.proofs.Bools.{which}
 use Rattle.purse.proofs.Refused.{accepted}
@@ -26,6 +26,7 @@ starts (StartTo other s a) = true
 starts (Deliver m) = false
 starts Abort = false
 starts Collect = false
+starts (Load a) = false
 
 -- an accepted start: the details' own number is the old next one, which grows by 1
 module _ (p : Purse) (own other : Name) (s : Seq) (a : Amount) where
@@ -43,6 +44,7 @@ next-grows p own (StartTo other s a) e z = rw (to-begins p own other s a z)
 next-grows p own (Deliver m) e z = absurd (let y : _≡_ {A = ℕ} 0 1 = cc in omega arith)
 next-grows p own Abort e z = absurd (let y : _≡_ {A = ℕ} 0 1 = cc in omega arith)
 next-grows p own Collect e z = absurd (let y : _≡_ {A = ℕ} 0 1 = cc in omega arith)
+next-grows p own (Load a) e z = absurd (let y : _≡_ {A = ℕ} 0 1 = cc in omega arith)
 
 delivered-next : (p : Purse) (k : ℕ) → delivered p k .purse .next ≡ p .next
 delivered-next p k =
@@ -53,12 +55,13 @@ delivered-next p k =
 
 -- no other event changes it
 pub next-stays : (p : Purse) (own : Name) (v : CardEvent) → starts v ≡ false → stepBy p own v .purse .next ≡ p .next
-unfolding deliverTo abortBy collectBy
+unfolding deliverTo abortBy collectBy loadBy
 next-stays p own (StartFrom other s a) e = absurd (let y : _≡_ {A = ℕ} 0 1 = cc in omega arith)
 next-stays p own (StartTo other s a) e = absurd (let y : _≡_ {A = ℕ} 0 1 = cc in omega arith)
 next-stays p own (Deliver m) e = unless-keeps (λ (q : Purse). q .next) p (deliverNumber p own m) _ (delivered-next p (m .kind))
 next-stays p own Abort e = unless-keeps (λ (q : Purse). q .next) p (abortNumber p own) _ (aborted-keeps (λ (q : Purse). q .next) p refl refl)
 next-stays p own Collect e = unless-keeps (λ (q : Purse). q .next) p (collectNumber p own) _ refl
+next-stays p own (Load a) e = unless-keeps (λ (q : Purse). q .next) p (loadNumber p own a) _ refl
 
 -- it never falls
 unless-least : (n : ℕ) (p : Purse) (a : CardAnswer) → p .next .0 ≤ a .purse .next .0 → p .next .0 ≤ unless n p a .purse .next .0
@@ -71,3 +74,4 @@ next-never-falls p own (StartTo other s a) = unless-least (toNumber p own other 
 next-never-falls p own (Deliver m) = rw (next-stays p own (Deliver m) refl) (omega arith)
 next-never-falls p own Abort = rw (next-stays p own Abort refl) (omega arith)
 next-never-falls p own Collect = rw (next-stays p own Collect refl) (omega arith)
+next-never-falls p own (Load a) = rw (next-stays p own (Load a) refl) (omega arith)

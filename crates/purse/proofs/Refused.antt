@@ -11,11 +11,12 @@ use Rattle.purse.specs.declared.Name.{Name}
 use Rattle.purse.specs.declared.Purse.{Purse}
 use Rattle.purse.specs.declared.CardAnswer.{CardAnswer}
 use Rattle.purse.specs.declared.CardEvent.{CardEvent}
-use Rattle.purse.specs.declared.CardEvent.the-variants.{StartFrom, StartTo, Deliver, Abort, Collect}
+use Rattle.purse.specs.declared.CardEvent.the-variants.{StartFrom, StartTo, Deliver, Abort, Collect, Load}
 use Rattle.purse.specs.Lists.{all, among}
 use Rattle.purse.specs.Tests.{Test, _⇒_, first}
+use Rattle.purse.specs.Details.{legal}
 use Rattle.purse.specs.Purse.{ceiling}
-use Rattle.purse.specs.Step.{refusedBy, unless, delivered, ownTests, startTests, expected, fromNumber, toNumber, deliverNumber, abortNumber, collectNumber, startFrom, startTo, deliverTo, abortBy, collectBy}
+use Rattle.purse.specs.Step.{refusedBy, unless, delivered, ownTests, startTests, expected, fromNumber, toNumber, deliverNumber, abortNumber, collectNumber, startFrom, startTo, deliverTo, abortBy, collectBy, raiseTests, loadNumber, loadBy}
 use Rattle.purse.specs.Card.{stepBy}
 use Rattle.purse.proofs.Bools.{and-l, and-r, which}
 
@@ -42,14 +43,16 @@ numberBy p own (StartTo other s a) = toNumber p own other a
 numberBy p own (Deliver m) = deliverNumber p own m
 numberBy p own Abort = abortNumber p own
 numberBy p own Collect = collectNumber p own
+numberBy p own (Load a) = loadNumber p own a
 
 pub number-answers : (p : Purse) (own : Name) (v : CardEvent) → answers (numberBy p own v) ≡ true
-unfolding numberBy fromNumber toNumber deliverNumber abortNumber collectNumber
+unfolding numberBy fromNumber toNumber deliverNumber abortNumber collectNumber loadNumber
 number-answers p own (StartFrom other s a) = first-answers (startTests p own other a ++ ((ltb (p .balance .0) (a .0) ⇒ 11) ∷ [])) refl
 number-answers p own (StartTo other s a) = first-answers (startTests p own other a ++ ((ltb (ceiling p) (p .balance .0 + a .0) ⇒ 12) ∷ [])) refl
 number-answers p own (Deliver m) = first-answers (ownTests p own ++ ((not (expected p m) ⇒ 13) ∷ [])) refl
 number-answers p own Abort = first-answers (ownTests p own) refl
 number-answers p own Collect = first-answers (ownTests p own ++ ((eqb (p .logged) 0 ⇒ 14) ∷ [])) refl
+number-answers p own (Load a) = first-answers (ownTests p own ++ ((not (legal a) ⇒ 7) ∷ raiseTests p a)) refl
 
 -- done where the number is 0, else refused by it
 unless-either : (n : ℕ) (p : Purse) (a : CardAnswer) → a .answer ≡ 0 → (unless n p a .answer ≡ n) × (((unless n p a .answer ≡ 0) → ⊥) → unless n p a ≡ refusedBy n p)
@@ -82,12 +85,13 @@ delivered-done p k =
 
 -- every step: its number is the answer's, and where that is not 0 the purse is as it was and nothing is handed out
 pub step-refuses : (p : Purse) (own : Name) (v : CardEvent) → Refuses p (numberBy p own v) (stepBy p own v)
-unfolding numberBy startFrom startTo deliverTo abortBy collectBy
+unfolding numberBy startFrom startTo deliverTo abortBy collectBy loadBy
 step-refuses p own (StartFrom other s a) = refuses (fromNumber p own other a) p _ refl
 step-refuses p own (StartTo other s a) = refuses (toNumber p own other a) p _ refl
 step-refuses p own (Deliver m) = refuses (deliverNumber p own m) p _ (delivered-done p (m .kind))
 step-refuses p own Abort = refuses (abortNumber p own) p _ refl
 step-refuses p own Collect = refuses (collectNumber p own) p _ refl
+step-refuses p own (Load a) = refuses (loadNumber p own a) p _ refl
 
 -- "never 1, 3, 5 or 15"
 pub step-answers : (p : Purse) (own : Name) (v : CardEvent) → answers (stepBy p own v .answer) ≡ true

@@ -1,8 +1,8 @@
 -- The rules about one purse as records of facts: what a well-formed purse promises, and what makes one well formed.
 -- Assumes nothing.
 use Prim.Native.Nat.{_+_, _≤_, _<_}
-use mathlib.Core.Path.{_≡_}
-use mathlib.Core.Bool.{true, _&&_, _||_}
+use mathlib.Core.Path.{_≡_, _∙_, ap}
+use mathlib.Core.Bool.{Bool, true, _&&_, _||_, and-false}
 use mathlib.Core.Logic.{⊎-elim}
 use lib.Dec.{leb, eqb}
 use native.Mathlib.Omega.{arith}
@@ -19,6 +19,14 @@ module _ (own : Name) (p : Purse) (w : wellFormed own p ≡ true) where
   busy s =
       or-r (idleOk p) (busyOk own p) (and-r (boundsOk p) (idleOk p || busyOk own p) (and-l (boundsOk p && (idleOk p || busyOk own p)) (logOk own p) w))
       (no-and (eqb (p .status) 0) (sameDetails (p .details) zeroDetails) (ne-eqb (p .status) 0 s))
+
+  pub idle : p .status ≡ 0 → idleOk p ≡ true
+  unfolding wellFormed busyOk
+  idle s =
+      or-l (idleOk p) (busyOk own p) (and-r (boundsOk p) (idleOk p || busyOk own p) (and-l (boundsOk p && (idleOk p || busyOk own p)) (logOk own p) w))
+      (ap (λ (x : Bool). named (p .details) && leb (p .logged) 7 && x)
+      (simp (ne-eqb (p .status) 1 (λ (z : p .status ≡ 1). omega arith), ne-eqb (p .status) 2 (λ (z : p .status ≡ 2). omega arith), ne-eqb (p .status) 3 (λ (z : p .status ≡ 3). omega arith)))
+      ∙ and-false (named (p .details) && leb (p .logged) 7))
 
   pub busy-parts : (p .status ≡ 0 → ⊥) → (paysOk p && asPayer own (p .next) (p .details) || getsOk p && asPayee own (p .next) (p .details)) ≡ true
   unfolding busyOk

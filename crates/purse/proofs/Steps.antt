@@ -15,7 +15,7 @@ use Rattle.purse.specs.declared.Purse.{Purse}
 use Rattle.purse.specs.Details.{sameDetails, legal}
 use Rattle.purse.specs.Purse.{ceiling, wellFormed}
 use Rattle.purse.specs.Tests.{Test, _⇒_, first}
-use Rattle.purse.specs.Step.{ownTests, startTests, fromNumber, toNumber, expected, deliverNumber, abortNumber, collectNumber}
+use Rattle.purse.specs.Step.{ownTests, startTests, fromNumber, toNumber, expected, deliverNumber, abortNumber, collectNumber, raiseTests, loadNumber}
 use Rattle.purse.proofs.Bools.{and-l, and-r, nor-l, nor-r, either}
 use Rattle.purse.proofs.Tests.{passed}
 use Rattle.purse.proofs.Rules.{room, can-pay, can-get}
@@ -123,3 +123,21 @@ collect-some p own e =
 pub abort-passed : (p : Purse) (own : Name) → abortNumber p own ≡ 0 → wellFormed own p ≡ true
 unfolding abortNumber
 abort-passed p own e = own-passed p own [] e .0
+
+-- a purse whose balance may rise: idle, with room
+pub record Raises (p : Purse) (a : Amount) : Type 0 where
+  pub idle : p .status ≡ 0
+  pub room : p .balance .0 + a .0 ≤ ceiling p
+
+pub raise-passed : (p : Purse) (a : Amount) → first (raiseTests p a) ≡ 0 → Raises p a
+raise-passed p a e =
+    let f : (not (eqb (p .status) 0) ≡ false) × (_≡_ {A = ℕ} _ 0) = passed (not (eqb (p .status) 0)) 8 _ (omega arith) e in
+    record {
+      idle = eqb-true _ _ (not-false _ (f .0));
+      room = ltb-false _ _ (passed (ltb (ceiling p) (p .balance .0 + a .0)) 12 0 (omega arith) (f .1) .0);
+    }
+
+pub load-passed : (p : Purse) (own : Name) (a : Amount) → loadNumber p own a ≡ 0 → Raises p a
+unfolding loadNumber
+load-passed p own a e =
+    raise-passed p a (passed (not (legal a)) 7 _ (omega arith) (own-passed p own ((not (legal a) ⇒ 7) ∷ raiseTests p a) e .1) .1)

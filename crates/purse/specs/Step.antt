@@ -178,3 +178,30 @@ taken p =
 
 unfoldable pub collectBy : Purse → Name → CardAnswer
 collectBy p own = unless (collectNumber p own) p (done (taken p) zeroMessage (getD (p .log) 0 zeroDetails))
+
+-- 8, then 12: a purse whose balance is to rise by an amount must be idle and have room for it
+abbrev pub raiseTests : Purse → Amount → List Test
+raiseTests p a =
+    (not (eqb (p .status) idle) ⇒ 8)
+    ∷ (ltb (ceiling p) (p .balance .0 + a .0) ⇒ 12)
+    ∷ []
+
+-- the balance higher by an amount
+abbrev pub raised : Amount → Purse → Purse
+raised a p =
+    record {
+      balance = record { 0 = p .balance .0 + a .0 };
+      next = p .next;
+      status = p .status;
+      details = p .details;
+      log = p .log;
+      logged = p .logged;
+    }
+
+-- "load 2, 3, 4, 7, 8, 12" (02, A5); a card never gives 3
+unfoldable pub loadNumber : Purse → Name → Amount → ℕ
+loadNumber p own a = first (ownTests p own ++ ((not (legal a) ⇒ 7) ∷ raiseTests p a))
+
+-- "Kind 8 loads an idle purse with an amount"
+unfoldable pub loadBy : Purse → Name → Amount → CardAnswer
+loadBy p own a = unless (loadNumber p own a) p (done (raised a p) zeroMessage zeroDetails)

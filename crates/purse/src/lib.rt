@@ -64,6 +64,7 @@ pub enum CardEvent {
     Deliver(Message),
     Abort,
     Collect,
+    Load(Amount),
 }
 
 // What a card answers: the number, the record, and the message to send or the entry collected, or all zero.
