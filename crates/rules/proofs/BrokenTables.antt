@@ -15,11 +15,10 @@ use Rattle.purse.specs.Purse.{idle, epr, epv, epa, logPlaces, zeroPurse, idleOk
 use Rattle.desk.specs.declared.Entry.{Entry}
 use Rattle.desk.specs.declared.Held.{Held}
 use Rattle.desk.specs.Desk.{zeroEntry, sameEntry}
-use Rattle.rules.specs.Bench.{Bench, called}
+use Rattle.rules.specs.Bench.{Bench, called, openedAt}
 use Rattle.rules.specs.Table.{countsOk, inTable, purseOk, messageOk, archiveOk, onceOk, clearOk, tableOk}
 use Rattle.rules.specs.Events.{decoded}
 use Rattle.rules.specs.Steps.{acting, step}
-use Rattle.rules.specs.Run.{openedAt}
 use Rattle.rules.specs.Laid.{isZeroPurse, isZeroMessage, isZeroEntry, heldOk, heldStep}
 use Rattle.rules.proofs.Samples.{payment}
 

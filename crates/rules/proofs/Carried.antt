@@ -6,7 +6,7 @@ use mathlib.Core.Path.{_≡_, refl, _∙_, sym, ap, subst}
 use mathlib.Core.Bool.{true, false, cond}
 use mathlib.Core.Logic.{⊎-elim}
 use mathlib.Core.List.{List, [], _∷_, _++_, map}
-use lib.ListN.{length, getD}
+use lib.ListN.{length}
 use lib.Dec.{ltb, leb, eqb}
 use native.Mathlib.Omega.{arith}
 use borrow.Author.Tests.{eqb-true, eqb-false}
@@ -24,17 +24,17 @@ use Rattle.desk.specs.declared.Answered.{Answered}
 use Rattle.rules.specs.Bench.{Bench, purseAt, balanceAt}
 use Rattle.rules.specs.Table.{tableOk}
 use Rattle.rules.specs.Events.{decoded}
-use Rattle.rules.specs.Steps.{step}
+use Rattle.rules.specs.Steps.{touched, step}
 use Rattle.rules.specs.Run.{openingNumber, opened, run, answers}
-use Rattle.rules.specs.Paid.{delivers, movedBy, moved, amountOf, matched, claims, paidOut, takenIn, abortOf}
+use Rattle.rules.specs.Paid.{Effect, nothing, effectOf, effectBy, gathered, amountOf, sumOf, matched, claims, paidOut, takenIn, addedTo, abortOf}
 use Rattle.rules.specs.Laid.{laid, seen, isZeroPurse, heldOk, heldStep, heldRun, heldAnswers, heldOpening, heldClaims}
-use Rattle.rules.specs.HeldPaid.{heldPurse, heldBalance, heldMoved, heldPaid, heldArrived}
+use Rattle.rules.specs.HeldPaid.{heldPurse, heldBalance, heldEffect, heldGathered, heldPaid, heldArrived, heldAdded}
 use Rattle.rules.specs.Orders.{heldOrder}
 use Rattle.rules.proofs.Facts.{is-table}
 use Rattle.rules.proofs.Places.{places-used, seen-laid, obeys, laid-seen, seen-ok, held-laid, step-laid}
 use Rattle.rules.proofs.Kept.{never, keep-step, keep-run}
 use Rattle.rules.proofs.Orders.{event-order, never-two}
-use Rattle.rules.proofs.Refusals.{refused-same, others-same}
+use Rattle.rules.proofs.Refusals.{refused-same, others-same, step-grows}
 use Rattle.rules.proofs.Opened.{opened-ok}
 use Rattle.rules.proofs.Claims.{claims-most}
 use Rattle.rules.proofs.Safe.{sum-safe, arrived-paid, paid-once, arrived-once, stopped-safe, stopped-owed, stops-done}
@@ -60,17 +60,17 @@ answers-laid b (l ∷ ls) w =
     in
     λ i. e i ∷ r i
 
-pub moved-laid : (k : ℕ) (b : Bench) (ls : List (List ℕ)) → tableOk b ≡ true → heldMoved k (laid b) ls ≡ moved k b ls
-unfolding movedBy
-moved-laid k b [] w = refl
-moved-laid k b (l ∷ ls) w =
-    let e : cond (leb (heldStep (laid b) l .answer) 1) (delivers k (seen (laid b)) (decoded l)) [] ≡ movedBy k b l =
-    λ i. cond (leb (answer-laid b l w i) 1) (delivers k (seen-laid b i) (decoded l)) []
+pub gathered-laid : {A : Type 0} (part : Effect → List A) (b : Bench) (ls : List (List ℕ)) → tableOk b ≡ true → heldGathered part (laid b) ls ≡ gathered part b ls
+unfolding effectBy
+gathered-laid part b [] w = refl
+gathered-laid {A} part b (l ∷ ls) w =
+    let e : heldEffect (laid b) l ≡ effectBy b l =
+    λ i. cond (leb (answer-laid b l w i) 1) (effectOf (seen-laid b i) (decoded l)) nothing
     in
-    let r : heldMoved k (heldStep (laid b) l .held) ls ≡ moved k (step b l .bench) ls =
-    ap (λ (h : Held). heldMoved k h ls) (after-laid b l w) ∙ moved-laid k (step b l .bench) ls (keep-step b l w)
+    let r : heldGathered part (heldStep (laid b) l .held) ls ≡ gathered part (step b l .bench) ls =
+    ap (λ (h : Held). heldGathered part h ls) (after-laid b l w) ∙ gathered-laid part (step b l .bench) ls (keep-step b l w)
     in
-    λ i. e i ++ r i
+    λ i. part (e i) ++ r i
 
 -- what is read at a place of the table, used or not
 purse-laid : (b : Bench) (p : ℕ) → heldPurse (laid b) p ≡ purseAt b p
@@ -120,11 +120,22 @@ held-refused-same h l =
     by-held h l (λ (h : Held) (a : Answered). 2 ≤ a .answer → a .held ≡ h) (λ no high. refl)
     (λ b w high. ap laid (refused-same b l high))
 
--- and a record that the event does not name stays as it is
-pub held-others-same : (h : Held) (l : List ℕ) (k : ℕ) → (k ≡ getD l 1 0 → ⊥) → heldPurse (heldStep h l .held) k ≡ heldPurse h k
-held-others-same h l k other =
-    by-held h l (λ (h : Held) (a : Answered). heldPurse (a .held) k ≡ heldPurse h k) (λ no. refl)
-    (λ b w. purse-laid (step b l .bench) k ∙ (others-same b l k other ∙ sym (purse-laid b k)))
+-- and a record that the event does not touch stays as it is
+pub held-others-same : (h : Held) (l : List ℕ) (k : ℕ) → among eqb k (touched (seen h) (decoded l)) ≡ false → heldPurse (heldStep h l .held) k ≡ heldPurse h k
+held-others-same h l k =
+    by-held h l (λ (h : Held) (a : Answered). among eqb k (touched (seen h) (decoded l)) ≡ false → heldPurse (a .held) k ≡ heldPurse h k) (λ no other. refl)
+    (λ b w other.
+    purse-laid (step b l .bench) k
+    ∙ (others-same b l k (ap (λ (c : Bench). among eqb k (touched c (decoded l))) (sym (seen-laid b)) ∙ other) ∙ sym (purse-laid b k)))
+
+-- and no purse leaves the table
+pub held-step-grows : (h : Held) (l : List ℕ) → h .desk .purses ≤ heldStep h l .held .desk .purses
+held-step-grows h l =
+    by-held h l (λ (h : Held) (a : Answered). h .desk .purses ≤ a .held .desk .purses) (λ no. omega arith) (λ b w. step-grows b l)
+
+pub held-grows : (h : Held) (ls : List (List ℕ)) → h .desk .purses ≤ heldRun h ls .desk .purses
+held-grows h [] = omega arith
+held-grows h (l ∷ ls) = omega (arith, held-step-grows h l, held-grows (heldStep h l .held) ls)
 
 -- opening: where it answers 0, the table and desk are the opened bench, laid out
 pub held-opens : (h : Held) (bs : List ℕ) → heldOpening h bs .answer ≡ 0 → (openingNumber bs ≡ 0) × (heldOpening h bs .held ≡ laid (opened bs))
@@ -147,34 +158,59 @@ module _ (bs : List ℕ) (es : List (List ℕ)) (ok : openingNumber bs ≡ 0) wh
   pub held-run-ok : heldOk (heldRun (laid (opened bs)) es) ≡ true
   held-run-ok = rw ran (held-laid (run (opened bs) es) (keep-run (opened bs) es (opened-ok bs ok)))
 
-  pub held-sum-safe : sumTo (length bs) (heldBalance (heldRun (laid (opened bs)) es)) ≤ sumTo (length bs) (heldBalance (laid (opened bs)))
+  abbrev gather : {A : Type 0} (part : Effect → List A) → heldGathered part (laid (opened bs)) es ≡ gathered part (opened bs) es
+  gather part = gathered-laid part (opened bs) es (opened-ok bs ok)
+
+  pub held-sum-safe : sumTo (heldRun (laid (opened bs)) es .desk .purses) (heldBalance (heldRun (laid (opened bs)) es)) ≤ sumTo (length bs) (heldBalance (laid (opened bs))) + total sumOf (heldAdded (laid (opened bs)) es)
   held-sum-safe =
-      rw ran
+      rw (ran, gather (λ (x : Effect). x .added))
       (omega (
         arith,
         sum-safe bs es ok,
-        sum-same (length bs) (heldBalance (laid (run (opened bs) es))) (balanceAt (run (opened bs) es)) (λ (p : ℕ) (l : p < length bs). balance-laid (run (opened bs) es) p),
+        sum-same (length (run (opened bs) es .purses)) (heldBalance (laid (run (opened bs) es))) (balanceAt (run (opened bs) es)) (λ (p : ℕ) (l : p < length (run (opened bs) es .purses)). balance-laid (run (opened bs) es) p),
         sum-same (length bs) (heldBalance (laid (opened bs))) (balanceAt (opened bs)) (λ (p : ℕ) (l : p < length bs). balance-laid (opened bs) p),
       ))
 
   pub held-arrived-paid : (d : Details) → among sameDetails d (heldArrived (laid (opened bs)) es) ≡ true → among sameDetails d (heldPaid (laid (opened bs)) es) ≡ true
-  held-arrived-paid = rw (moved-laid 2 (opened bs) es (opened-ok bs ok), moved-laid 1 (opened bs) es (opened-ok bs ok)) (arrived-paid bs es ok)
+  held-arrived-paid = rw (gather (λ (x : Effect). x .arrived), gather (λ (x : Effect). x .paid)) (arrived-paid bs es ok)
 
   pub held-paid-once : distinct sameDetails (heldPaid (laid (opened bs)) es) ≡ true
-  held-paid-once = rw (moved-laid 1 (opened bs) es (opened-ok bs ok)) (paid-once bs es ok)
+  held-paid-once = rw (gather (λ (x : Effect). x .paid)) (paid-once bs es ok)
 
   pub held-arrived-once : distinct sameDetails (heldArrived (laid (opened bs)) es) ≡ true
-  held-arrived-once = rw (moved-laid 2 (opened bs) es (opened-ok bs ok)) (arrived-once bs es ok)
+  held-arrived-once = rw (gather (λ (x : Effect). x .arrived)) (arrived-once bs es ok)
 
-  pub held-stops-done : (ps : List ℕ) → all (λ (p : ℕ). ltb p (length bs)) ps ≡ true → heldAnswers (heldRun (laid (opened bs)) es) (map abortOf ps) ≡ map (λ (p : ℕ). 0) ps
-  held-stops-done ps h =
-      rw (ran, answers-laid (run (opened bs) es) (map abortOf ps) (keep-run (opened bs) es (opened-ok bs ok))) (stops-done bs es ps ok h)
+  pub held-stops-done : (ps : List ℕ) → all (λ (p : ℕ). ltb p (heldRun (laid (opened bs)) es .desk .purses)) ps ≡ true → heldAnswers (heldRun (laid (opened bs)) es) (map abortOf ps) ≡ map (λ (p : ℕ). 0) ps
+  held-stops-done ps =
+      rw (ran, answers-laid (run (opened bs) es) (map abortOf ps) (keep-run (opened bs) es (opened-ok bs ok))) (λ h. stops-done bs es ps ok h)
 
-pub held-stopped-safe : (bs : List ℕ) (es : List (List ℕ)) (ps : List ℕ) → openingNumber bs ≡ 0 → ((p : ℕ) → p < length bs → among eqb p ps ≡ true) → (p : ℕ) → p < length bs → heldBalance (heldRun (laid (opened bs)) (es ++ map abortOf ps)) p + total amountOf (matched (seen (heldRun (laid (opened bs)) (es ++ map abortOf ps))) p) + paidOut p (heldArrived (laid (opened bs)) (es ++ map abortOf ps)) ≡ heldBalance (laid (opened bs)) p + takenIn p (heldArrived (laid (opened bs)) (es ++ map abortOf ps))
-held-stopped-safe bs es ps ok every p l =
-    let c : Bench = run (opened bs) (es ++ map abortOf ps) in
-    rw (ran bs (es ++ map abortOf ps) ok, moved-laid 2 (opened bs) (es ++ map abortOf ps) (opened-ok bs ok))
-    (omega (arith, stopped-safe bs es ps ok every p l, balance-laid c p, balance-laid (opened bs) p, ap (λ (b : Bench). total amountOf (matched b p)) (seen-laid c)))
+-- after an abort event to every purse that stands, in any order
+module _ (bs : List ℕ) (es : List (List ℕ)) (ps : List ℕ) (ok : openingNumber bs ≡ 0) (every : (p : ℕ) → p < heldRun (laid (opened bs)) es .desk .purses → among eqb p ps ≡ true) where
+  abbrev c : Bench
+  c = run (opened bs) (es ++ map abortOf ps)
+
+  abbrev end : Held
+  end = heldRun (laid (opened bs)) (es ++ map abortOf ps)
+
+  all-named : (p : ℕ) → p < length (run (opened bs) es .purses) → among eqb p ps ≡ true
+  all-named p l = every p (rw (ran bs es ok) l)
+
+  pub held-stopped-safe : (p : ℕ) → heldBalance end p + total amountOf (matched (seen end) p) + paidOut p (heldArrived (laid (opened bs)) (es ++ map abortOf ps)) ≡ heldBalance (laid (opened bs)) p + addedTo p (heldAdded (laid (opened bs)) (es ++ map abortOf ps)) + takenIn p (heldArrived (laid (opened bs)) (es ++ map abortOf ps))
+  held-stopped-safe p =
+      rw (ran bs (es ++ map abortOf ps) ok, gather bs (es ++ map abortOf ps) ok (λ (x : Effect). x .arrived), gather bs (es ++ map abortOf ps) ok (λ (x : Effect). x .added))
+      (omega (arith, stopped-safe bs es ps ok all-named p, balance-laid c p, balance-laid (opened bs) p, ap (λ (b : Bench). total amountOf (matched b p)) (seen-laid c)))
+
+  pub held-stopped-owed : sumTo (end .desk .purses) (heldBalance end) + heldClaims end .claims ≡ sumTo (length bs) (heldBalance (laid (opened bs))) + total sumOf (heldAdded (laid (opened bs)) (es ++ map abortOf ps))
+  unfolding heldClaims
+  held-stopped-owed =
+      rw (ran bs (es ++ map abortOf ps) ok, held-laid c (keep-run (opened bs) (es ++ map abortOf ps) (opened-ok bs ok)), gather bs (es ++ map abortOf ps) ok (λ (x : Effect). x .added))
+      (omega (
+        arith,
+        stopped-owed bs es ps ok all-named,
+        ap claims (seen-laid c),
+        sum-same (length (c .purses)) (heldBalance (laid c)) (balanceAt c) (λ (p : ℕ) (l : p < length (c .purses)). balance-laid c p),
+        sum-same (length bs) (heldBalance (laid (opened bs))) (balanceAt (opened bs)) (λ (p : ℕ) (l : p < length bs). balance-laid (opened bs) p),
+      ))
 
 -- the claims figure of any table and desk
 module _ (h : Held) where
@@ -188,16 +224,3 @@ module _ (h : Held) where
   unfolding heldClaims
   held-claims-most =
       ⊎-elim (λ (w : heldOk h ≡ true). rw w (claims-most (seen h) (seen-ok h w))) (λ (w : heldOk h ≡ false). rw w (omega arith)) (which (heldOk h))
-
-pub held-stopped-owed : (bs : List ℕ) (es : List (List ℕ)) (ps : List ℕ) → openingNumber bs ≡ 0 → ((p : ℕ) → p < length bs → among eqb p ps ≡ true) → sumTo (length bs) (heldBalance (heldRun (laid (opened bs)) (es ++ map abortOf ps))) + heldClaims (heldRun (laid (opened bs)) (es ++ map abortOf ps)) .claims ≡ sumTo (length bs) (heldBalance (laid (opened bs)))
-unfolding heldClaims
-held-stopped-owed bs es ps ok every =
-    let c : Bench = run (opened bs) (es ++ map abortOf ps) in
-    rw (ran bs (es ++ map abortOf ps) ok, held-laid c (keep-run (opened bs) (es ++ map abortOf ps) (opened-ok bs ok)))
-    (omega (
-      arith,
-      stopped-owed bs es ps ok every,
-      ap claims (seen-laid c),
-      sum-same (length bs) (heldBalance (laid c)) (balanceAt c) (λ (p : ℕ) (l : p < length bs). balance-laid c p),
-      sum-same (length bs) (heldBalance (laid (opened bs))) (balanceAt (opened bs)) (λ (p : ℕ) (l : p < length bs). balance-laid (opened bs) p),
-    ))

@@ -4,9 +4,9 @@
 -- Assumes nothing.
 use Prim.Native.Nat.{ℕ, _+_, _≤_, _<_}
 use mathlib.Core.Path.{_≡_, refl}
-use mathlib.Core.Bool.{true}
+use mathlib.Core.Bool.{true, false}
 use mathlib.Core.List.{List, _++_, map}
-use lib.ListN.{length, getD}
+use lib.ListN.{length}
 use lib.Dec.{ltb, eqb}
 use Rattle.purse.specs.declared.Details.{Details}
 use Rattle.purse.specs.Lists.{all, among, distinct, total, sumTo}
@@ -15,15 +15,16 @@ use Rattle.purse.specs.Details.{sameDetails}
 use Rattle.desk.specs.declared.Held.{Held}
 use Rattle.rules.specs.Bench.{Bench, purseAt, balanceAt}
 use Rattle.rules.specs.Table.{tableOk}
-use Rattle.rules.specs.Steps.{step}
+use Rattle.rules.specs.Events.{decoded}
+use Rattle.rules.specs.Steps.{touched, step}
 use Rattle.rules.specs.Run.{openingNumber, opened, run, answers}
-use Rattle.rules.specs.Paid.{paid, arrived, amountOf, paidOut, takenIn, matched, claims, abortOf}
+use Rattle.rules.specs.Paid.{paid, arrived, added, amountOf, sumOf, paidOut, takenIn, addedTo, matched, claims, abortOf}
 use Rattle.rules.specs.Laid.{laid, seen, heldOk, heldStep, heldRun, heldAnswers, heldOpening, heldClaims}
-use Rattle.rules.specs.HeldPaid.{heldPurse, heldBalance, heldPaid, heldArrived}
+use Rattle.rules.specs.HeldPaid.{heldPurse, heldBalance, heldPaid, heldArrived, heldAdded}
 use Rattle.rules.specs.Orders.{order, heldOrder}
 use Rattle.rules.proofs.Kept.{keep-step}
 use Rattle.rules.proofs.Orders.{answer-order}
-use Rattle.rules.proofs.Refusals.{refused-same, others-same}
+use Rattle.rules.proofs.Refusals.{refused-same, others-same, run-grows}
 use Rattle.rules.proofs.Opened.{opened-ok, opened-never-two}
 use Rattle.rules.proofs.Claims.{matched-once, pairs-most, claims-most}
 use Rattle.rules.proofs.Safe.{sum-safe, arrived-paid, paid-once, arrived-once, stopped-safe, stopped-owed, stops-done}
@@ -43,9 +44,13 @@ module _ (b : Bench) (event : List ℕ) where
   pub refusal-changes-nothing : 2 ≤ step b event .answer → step b event .bench ≡ b
   refusal-changes-nothing = refused-same b event
 
-  -- no purse changes but the one that the event's second byte names
-  pub others-untouched : (p : ℕ) → (p ≡ getD event 1 0 → ⊥) → purseAt (step b event .bench) p ≡ purseAt b p
+  -- no purse changes but the one that the event names, or issues
+  pub others-untouched : (p : ℕ) → among eqb p (touched b (decoded event)) ≡ false → purseAt (step b event .bench) p ≡ purseAt b p
   others-untouched = others-same b event
+
+-- the table's number of purses grows and never shrinks
+pub purses-never-fewer : (b : Bench) (events : List (List ℕ)) → length (b .purses) ≤ length (run b events .purses)
+purses-never-fewer = run-grows
 
 -- the claims figure of any table that obeys the rules: "every matched pair, wherever the two entries stand" (02, A1), each counted once; at
 -- most 256 pairs, so that four bytes hold the figure
@@ -75,8 +80,8 @@ module _ (balances : List ℕ) (events : List (List ℕ)) (opens : openingNumber
   pub never-two : (event : List ℕ) → step (run start events) event .answer ≡ 2 → ⊥
   never-two event = opened-never-two balances events event opens
 
-  -- demand 3: at every moment the balances sum to no more than the opening sum
-  pub sum-never-grows : sumTo (length balances) (balanceAt (run start events)) ≤ sumTo (length balances) (balanceAt start)
+  -- demand 3: at every moment the balances sum to no more than the opening sum, which takes in "issue balances and loads so far" (02, A5)
+  pub sum-never-grows : sumTo (length (run start events .purses)) (balanceAt (run start events)) ≤ sumTo (length balances) (balanceAt start) + total sumOf (added start events)
   sum-never-grows = sum-safe balances events opens
 
   -- nothing arrives that was not paid, nothing is paid twice, nothing arrives twice
@@ -90,23 +95,23 @@ module _ (balances : List ℕ) (events : List (List ℕ)) (opens : openingNumber
   nothing-arrives-twice = arrived-once balances events opens
 
   -- "To stop a purse is to give it an abort event": the stop of a purse of the table answers 0
-  pub stops-are-done : (names : List ℕ) → all (λ (p : ℕ). ltb p (length balances)) names ≡ true → answers (run start events) (map abortOf names) ≡ map (λ (p : ℕ). 0) names
+  pub stops-are-done : (names : List ℕ) → all (λ (p : ℕ). ltb p (length (run start events .purses))) names ≡ true → answers (run start events) (map abortOf names) ≡ map (λ (p : ℕ). 0) names
   stops-are-done names in-table = stops-done balances events names opens in-table
 
   -- demand 3: stop every purse, in any order. Then, of each purse: its balance, what its matched log pairs record, and its payments that
-  -- arrived, are its opening balance and the payments that arrived in it
-  module _ (names : List ℕ) (every : (p : ℕ) → p < length balances → among eqb p names ≡ true) where
+  -- arrived, are its opening balance with its issue balance and loads, and the payments that arrived in it
+  module _ (names : List ℕ) (every : (p : ℕ) → p < length (run start events .purses) → among eqb p names ≡ true) where
     abbrev all-events : List (List ℕ)
     all-events = events ++ map abortOf names
 
     abbrev end : Bench
     end = run start all-events
 
-    pub stopped-balances : (p : ℕ) → p < length balances → balanceAt end p + total amountOf (matched end p) + paidOut p (arrived start all-events) ≡ balanceAt start p + takenIn p (arrived start all-events)
+    pub stopped-balances : (p : ℕ) → balanceAt end p + total amountOf (matched end p) + paidOut p (arrived start all-events) ≡ balanceAt start p + addedTo p (added start all-events) + takenIn p (arrived start all-events)
     stopped-balances = stopped-safe balances events names opens every
 
     -- and, summed over all purses: the claims figure is what the balances lack of the opening sum
-    pub stopped-claims : sumTo (length balances) (balanceAt end) + claims end ≡ sumTo (length balances) (balanceAt start)
+    pub stopped-claims : sumTo (length (end .purses)) (balanceAt end) + claims end ≡ sumTo (length balances) (balanceAt start) + total sumOf (added start all-events)
     stopped-claims = stopped-owed balances events names opens every
 
 -- the same of the lent table and the desk: any, and any event
@@ -120,8 +125,11 @@ module _ (h : Held) (event : List ℕ) where
   pub lent-refusal-changes-nothing : 2 ≤ heldStep h event .answer → heldStep h event .held ≡ h
   lent-refusal-changes-nothing = lent.held-refused-same h event
 
-  pub lent-others-untouched : (p : ℕ) → (p ≡ getD event 1 0 → ⊥) → heldPurse (heldStep h event .held) p ≡ heldPurse h p
+  pub lent-others-untouched : (p : ℕ) → among eqb p (touched (seen h) (decoded event)) ≡ false → heldPurse (heldStep h event .held) p ≡ heldPurse h p
   lent-others-untouched = lent.held-others-same h event
+
+pub lent-purses-never-fewer : (h : Held) (events : List (List ℕ)) → h .desk .purses ≤ heldRun h events .desk .purses
+lent-purses-never-fewer = lent.held-grows
 
 module _ (h : Held) where
   pub lent-claims-are-the-matched-pairs : heldOk h ≡ true → heldClaims h .claims ≡ sumTo (h .desk .purses) (λ (p : ℕ). total amountOf (matched (seen h) p))
@@ -148,7 +156,7 @@ module _ (before : Held) (balances : List ℕ) (events : List (List ℕ)) (opens
   pub lent-never-two : (event : List ℕ) → heldStep (heldRun lent-start events) event .answer ≡ 2 → ⊥
   lent-never-two event = lent.held-never-two (heldRun lent-start events) event lent-obeys-the-rules
 
-  pub lent-sum-never-grows : sumTo (length balances) (heldBalance (heldRun lent-start events)) ≤ sumTo (length balances) (heldBalance lent-start)
+  pub lent-sum-never-grows : sumTo (heldRun lent-start events .desk .purses) (heldBalance (heldRun lent-start events)) ≤ sumTo (length balances) (heldBalance lent-start) + total sumOf (heldAdded lent-start events)
   lent-sum-never-grows = rw starts-laid (lent.held-sum-safe balances events opening)
 
   pub lent-nothing-arrives-unpaid : (d : Details) → among sameDetails d (heldArrived lent-start events) ≡ true → among sameDetails d (heldPaid lent-start events) ≡ true
@@ -160,18 +168,18 @@ module _ (before : Held) (balances : List ℕ) (events : List (List ℕ)) (opens
   pub lent-nothing-arrives-twice : distinct sameDetails (heldArrived lent-start events) ≡ true
   lent-nothing-arrives-twice = rw starts-laid (lent.held-arrived-once balances events opening)
 
-  pub lent-stops-are-done : (names : List ℕ) → all (λ (p : ℕ). ltb p (length balances)) names ≡ true → heldAnswers (heldRun lent-start events) (map abortOf names) ≡ map (λ (p : ℕ). 0) names
+  pub lent-stops-are-done : (names : List ℕ) → all (λ (p : ℕ). ltb p (heldRun lent-start events .desk .purses)) names ≡ true → heldAnswers (heldRun lent-start events) (map abortOf names) ≡ map (λ (p : ℕ). 0) names
   lent-stops-are-done = rw starts-laid (lent.held-stops-done balances events opening)
 
-  module _ (names : List ℕ) (every : (p : ℕ) → p < length balances → among eqb p names ≡ true) where
+  module _ (names : List ℕ) (every : (p : ℕ) → p < heldRun lent-start events .desk .purses → among eqb p names ≡ true) where
     abbrev lent-all-events : List (List ℕ)
     lent-all-events = events ++ map abortOf names
 
     abbrev lent-end : Held
     lent-end = heldRun lent-start lent-all-events
 
-    pub lent-stopped-balances : (p : ℕ) → p < length balances → heldBalance lent-end p + total amountOf (matched (seen lent-end) p) + paidOut p (heldArrived lent-start lent-all-events) ≡ heldBalance lent-start p + takenIn p (heldArrived lent-start lent-all-events)
-    lent-stopped-balances = rw starts-laid (lent.held-stopped-safe balances events names opening every)
+    pub lent-stopped-balances : (p : ℕ) → heldBalance lent-end p + total amountOf (matched (seen lent-end) p) + paidOut p (heldArrived lent-start lent-all-events) ≡ heldBalance lent-start p + addedTo p (heldAdded lent-start lent-all-events) + takenIn p (heldArrived lent-start lent-all-events)
+    lent-stopped-balances = rw starts-laid (lent.held-stopped-safe balances events names opening (λ p l. every p (rw starts-laid l)))
 
-    pub lent-stopped-claims : sumTo (length balances) (heldBalance lent-end) + heldClaims lent-end .claims ≡ sumTo (length balances) (heldBalance lent-start)
-    lent-stopped-claims = rw starts-laid (lent.held-stopped-owed balances events names opening every)
+    pub lent-stopped-claims : sumTo (lent-end .desk .purses) (heldBalance lent-end) + heldClaims lent-end .claims ≡ sumTo (length balances) (heldBalance lent-start) + total sumOf (heldAdded lent-start lent-all-events)
+    lent-stopped-claims = rw starts-laid (lent.held-stopped-owed balances events names opening (λ p l. every p (rw starts-laid l)))

@@ -1,15 +1,15 @@
 -- The history of a bench: what was paid and what arrived beside what the purses hold. Each move keeps these facts.
--- P and A are the details paid and arrived so far; every fact but the money is about how often details stand somewhere.
+-- `s` is what was moved so far; every fact but the money is about how often details stand somewhere.
 -- Assumes nothing.
 use Prim.Native.Nat.{ℕ, _+_, _≤_, _<_}
 use mathlib.Core.Path.{_≡_, refl, _∙_, sym, ap}
-use mathlib.Core.Bool.{true, false, cond}
+use mathlib.Core.Bool.{Bool, true, false, cond}
 use mathlib.Core.Logic.{_⊎_, inl, inr, ⊎-elim}
 use mathlib.Core.List.{List, [], _∷_, _++_, append-nil, append-assoc}
-use lib.ListN.{length, getD}
-use lib.Dec.{leb, eqb}
+use lib.ListN.{length, getD, set, length-append, length-set, List·getD-eq-default}
+use lib.Dec.{ltb, leb, eqb}
 use native.Mathlib.Omega.{arith}
-use borrow.Author.Tests.{leb-true, leb-false, eq-eqb, ne-eqb}
+use borrow.Author.Tests.{leb-true, leb-false, ltb-true, lt-ltb, eq-eqb, ne-eqb}
 use Rattle.purse.specs.declared.Name.{Name}
 use Rattle.purse.specs.declared.Seq.{Seq}
 use Rattle.purse.specs.declared.Amount.{Amount}
@@ -17,22 +17,24 @@ use Rattle.purse.specs.declared.Details.{Details}
 use Rattle.purse.specs.declared.Message.{Message}
 use Rattle.purse.specs.declared.Purse.{Purse}
 use Rattle.purse.specs.Details.{request, value, acknowledge, zeroDetails, zeroMessage, sameDetails, sameMessage}
-use Rattle.purse.specs.Step.{stopped, taken}
-use Rattle.purse.specs.Lists.{keep, total, without}
+use Rattle.purse.specs.Purse.{ceiling, zeroPurse}
+use Rattle.purse.specs.Step.{stopped, taken, raised}
+use Rattle.purse.specs.Lists.{all, keep, total, without}
 use Rattle.purse.proofs.Rules.{can-pay}
-use Rattle.purse.proofs.Bools.{which, refute}
+use Rattle.purse.proofs.Bools.{and-i, which, refute}
+use Rattle.purse.proofs.Lists.{all-append, all-each}
 use Rattle.purse.proofs.Payments.{is-same}
 use Rattle.purse.proofs.Count.{none, bit, bit-le, bit-yes, times-append, times-split, total-append, keep-append}
 use Rattle.desk.specs.declared.Entry.{Entry}
-use Rattle.rules.specs.Bench.{Bench, called, purseAt, kept, archivedBy, isAt, balanceAt}
+use Rattle.rules.specs.Bench.{Bench, called, openedAt, purseAt, kept, archivedBy, isAt, balanceAt}
 use Rattle.rules.specs.Table.{tableOk}
-use Rattle.rules.specs.Steps.{withPurse, withMessages, withArchive, step}
+use Rattle.rules.specs.Steps.{withPurse, withNew, withMessages, withArchive, step}
 use Rattle.rules.specs.Run.{run}
-use Rattle.rules.specs.Paid.{amountOf, moved, movedBy, paid, arrived, paidOut, takenIn}
+use Rattle.rules.specs.Paid.{Addition, Effect, nothing, adds, effectBy, amountOf, sumOf, paid, arrived, added, paidOut, takenIn, addedTo}
 use Rattle.rules.proofs.Facts.{details-equal, details-same, countD, countM, MessageOk, Table, is-table}
-use Rattle.rules.proofs.Puts.{put-cases, Grown, grown-put, at-end, archived-end}
+use Rattle.rules.proofs.Puts.{Replaced, put-replaced, new-replaced, withPurses, replace-cases, put-cases, Grown, grown-list, grown-put, at-end, archived-end}
 use Rattle.rules.proofs.Purses.{OwnPayer, OwnPayee, payer-role, payee-role, busy-apart, status-high, kept-stopped, kept-taken}
-use Rattle.rules.proofs.Moves.{fromOf, toOf, messageOf, begunFrom, begunTo, payerAfter, payeeAfter, idleAfter, Started, Taking, Sent, Good, Moves, step-moves}
+use Rattle.rules.proofs.Moves.{fromOf, toOf, messageOf, begunFrom, begunTo, payerAfter, payeeAfter, idleAfter, Started, Taking, Sent, Good, pays, gets, Moves, step-moves}
 use Rattle.rules.proofs.Kept.{fresh-to, keep-step}
 
 -- how often: the payer in epr, the payer in epa, the payee in epv with d; the payer, the payee has logged d
@@ -59,10 +61,10 @@ pub record Placed (b : Bench) (d : Details) : Type 0 where
   pub payeeseq : d .payeeseq .0 < purseAt b (d .payee .0) .next .0
 
 -- what a message that stands is backed by
-pub record Backed (b : Bench) (P A : List Details) (m : Message) : Type 0 where
-  pub request : m .kind ≡ 1 → 1 ≤ epv b (m .details) + payeeLog b (m .details) + countD (m .details) A
-  pub value : m .kind ≡ 2 → 1 ≤ countD (m .details) P
-  pub acknowledge : m .kind ≡ 3 → 1 ≤ countD (m .details) A
+pub record Backed (b : Bench) (s : Effect) (m : Message) : Type 0 where
+  pub request : m .kind ≡ 1 → 1 ≤ epv b (m .details) + payeeLog b (m .details) + countD (m .details) (s .arrived)
+  pub value : m .kind ≡ 2 → 1 ≤ countD (m .details) (s .paid)
+  pub acknowledge : m .kind ≡ 3 → 1 ≤ countD (m .details) (s .arrived)
 
 -- what one payment's seven numbers satisfy: in epr, in epa, in epv, logged by the payer, logged by the payee, paid, arrived
 pub record Counts (epr epa epv payerLog payeeLog paid arrived : ℕ) : Type 0 where
@@ -77,61 +79,83 @@ pub record Counts (epr epa epv payerLog payeeLog paid arrived : ℕ) : Type 0 wh
 abbrev pub CountsAt : Bench → Details → ℕ → ℕ → Type 0
 CountsAt b d n m = Counts (epr b d) (epa b d) (epv b d) (payerLog b d) (payeeLog b d) n m
 
-pub record History (opening : ℕ → ℕ) (b : Bench) (P A : List Details) : Type 0 where
-  pub money : (p : ℕ) → p < length (b .purses) → balanceAt b p + paidOut p P ≡ opening p + takenIn p A
-  pub placed : (d : Details) → 1 ≤ countD d P → Placed b d
-  pub counts : (d : Details) → CountsAt b d (countD d P) (countD d A)
-  pub backed : (m : Message) → 1 ≤ countM m (b .messages) → Backed b P A m
+-- every amount that was added came into a purse of the table
+abbrev reached : Bench → List Addition → Bool
+reached b l = all (λ (x : Addition). ltb (x .purse) (length (b .purses))) l
 
--- the same facts after a move that paid x and by which y arrived
-record Next (b : Bench) (P A : List Details) (c : Bench) (x y : List Details) : Type 0 where
+-- s is what was moved so far. `money` is of any name: past the table all its terms are 0
+pub record History (opening : ℕ → ℕ) (b : Bench) (s : Effect) : Type 0 where
+  pub money : (p : ℕ) → balanceAt b p + paidOut p (s .paid) ≡ opening p + addedTo p (s .added) + takenIn p (s .arrived)
+  pub placed : (d : Details) → 1 ≤ countD d (s .paid) → Placed b d
+  pub reach : reached b (s .added) ≡ true
+  pub counts : (d : Details) → CountsAt b d (countD d (s .paid)) (countD d (s .arrived))
+  pub backed : (m : Message) → 1 ≤ countM m (b .messages) → Backed b s m
+
+-- what was moved first and then
+abbrev pub joined : Effect → Effect → Effect
+joined s x = record { paid = s .paid ++ x .paid; arrived = s .arrived ++ x .arrived; added = s .added ++ x .added }
+
+-- the same facts after a move that moved x
+record Next (b : Bench) (s : Effect) (c : Bench) (x : Effect) : Type 0 where
   grown : Grown b c
-  money : (p : ℕ) → p < length (b .purses) → balanceAt c p + paidOut p x ≡ balanceAt b p + takenIn p y
-  placed : (d : Details) → 1 ≤ countD d x → Placed c d
-  counts : (d : Details) → CountsAt c d (countD d P + countD d x) (countD d A + countD d y)
-  rises : (d : Details) → epv b d + payeeLog b d + countD d A ≤ epv c d + payeeLog c d + (countD d A + countD d y)
-  backed : (m : Message) → 1 ≤ countM m (c .messages) → (1 ≤ countM m (b .messages)) ⊎ Backed c (P ++ x) (A ++ y) m
+  money : (p : ℕ) → balanceAt c p + paidOut p (x .paid) ≡ balanceAt b p + addedTo p (x .added) + takenIn p (x .arrived)
+  placed : (d : Details) → 1 ≤ countD d (x .paid) → Placed c d
+  reach : reached c (x .added) ≡ true
+  counts : (d : Details) → CountsAt c d (countD d (s .paid) + countD d (x .paid)) (countD d (s .arrived) + countD d (x .arrived))
+  rises : (d : Details) → epv b d + payeeLog b d + countD d (s .arrived) ≤ epv c d + payeeLog c d + (countD d (s .arrived) + countD d (x .arrived))
+  backed : (m : Message) → 1 ≤ countM m (c .messages) → (1 ≤ countM m (b .messages)) ⊎ Backed c (joined s x) m
 
 -- the purses alone decide it
 grown-with : {b c : Bench} (ms : List Message) (es : List Entry) → Grown b c → Grown b (record { purses = c .purses; messages = ms; archive = es })
-grown-with ms es g = record { same = g .same; next = g .next }
+grown-with ms es g = record { more = g .more; next = g .next }
 
 placed-later : {b c : Bench} {d : Details} → Grown b c → Placed b d → Placed c d
 placed-later {b} {c} {d} g k =
     record {
-      payer = omega (arith, g .same, k .payer);
-      payee = omega (arith, g .same, k .payee);
+      payer = omega (arith, g .more, k .payer);
+      payee = omega (arith, g .more, k .payee);
       payerseq = omega (arith, g .next (d .payer .0), k .payerseq);
       payeeseq = omega (arith, g .next (d .payee .0), k .payeeseq);
     }
 
-after : {opening : ℕ → ℕ} {b : Bench} {P A : List Details} {c : Bench} {x y : List Details} → History opening b P A → Next b P A c x y → History opening c (P ++ x) (A ++ y)
-after {opening} {b} {P} {A} {c} {x} {y} h n =
-    let tp : (d : Details) → countD d (P ++ x) ≡ countD d P + countD d x = λ (d : Details). times-append sameDetails d P x in
-    let ta : (d : Details) → countD d (A ++ y) ≡ countD d A + countD d y = λ (d : Details). times-append sameDetails d A y in
+-- a sum over what was moved first and then
+sum-joined : {A : Type 0} (w : A → ℕ) (f : A → Bool) (l k : List A) → total w (keep f (l ++ k)) ≡ total w (keep f l) + total w (keep f k)
+sum-joined w f l k = ap (total w) (keep-append f l k) ∙ total-append w (keep f l) (keep f k)
+
+after : {opening : ℕ → ℕ} {b : Bench} {s : Effect} {c : Bench} {x : Effect} → History opening b s → Next b s c x → History opening c (joined s x)
+after {opening} {b} {s} {c} {x} h n =
+    let tp : (d : Details) → countD d (s .paid ++ x .paid) ≡ countD d (s .paid) + countD d (x .paid) = λ (d : Details). times-append sameDetails d (s .paid) (x .paid) in
+    let ta : (d : Details) → countD d (s .arrived ++ x .arrived) ≡ countD d (s .arrived) + countD d (x .arrived) = λ (d : Details). times-append sameDetails d (s .arrived) (x .arrived) in
     record {
       money =
-          λ (p : ℕ) (l : p < length (c .purses)).
-          let lb : p < length (b .purses) = omega (arith, n .grown .same) in
-          let ep : paidOut p (P ++ x) ≡ paidOut p P + paidOut p x =
-          ap (total amountOf) (keep-append (λ (d : Details). eqb (d .payer .0) p) P x) ∙ total-append amountOf (keep (λ (d : Details). eqb (d .payer .0) p) P) (keep (λ (d : Details). eqb (d .payer .0) p) x)
-          in
-          let ea : takenIn p (A ++ y) ≡ takenIn p A + takenIn p y =
-          ap (total amountOf) (keep-append (λ (d : Details). eqb (d .payee .0) p) A y) ∙ total-append amountOf (keep (λ (d : Details). eqb (d .payee .0) p) A) (keep (λ (d : Details). eqb (d .payee .0) p) y)
-          in
-          omega (arith, h .money p lb, n .money p lb);
+          λ (p : ℕ).
+          omega (
+            arith,
+            h .money p,
+            n .money p,
+            sum-joined amountOf (λ (d : Details). eqb (d .payer .0) p) (s .paid) (x .paid),
+            sum-joined amountOf (λ (d : Details). eqb (d .payee .0) p) (s .arrived) (x .arrived),
+            sum-joined sumOf (λ (y : Addition). eqb (y .purse) p) (s .added) (x .added),
+          );
       placed =
-          λ (d : Details) (l : 1 ≤ countD d (P ++ x)).
+          λ (d : Details) (l : 1 ≤ countD d (s .paid ++ x .paid)).
           ⊎-elim
-          (λ (e : leb 1 (countD d x) ≡ true). n .placed d (leb-true _ _ e))
-          (λ (e : leb 1 (countD d x) ≡ false). placed-later (n .grown) (h .placed d (omega (arith, tp d, leb-false 1 (countD d x) e))))
-          (which (leb 1 (countD d x)));
+          (λ (e : leb 1 (countD d (x .paid)) ≡ true). n .placed d (leb-true _ _ e))
+          (λ (e : leb 1 (countD d (x .paid)) ≡ false). placed-later (n .grown) (h .placed d (omega (arith, tp d, leb-false 1 (countD d (x .paid)) e))))
+          (which (leb 1 (countD d (x .paid))));
+      reach =
+          all-append (λ (y : Addition). ltb (y .purse) (length (c .purses))) (s .added) (x .added)
+          ∙ and-i
+          (all-each (λ (y : Addition). ltb (y .purse) (length (b .purses))) (λ (y : Addition). ltb (y .purse) (length (c .purses))) (s .added)
+          (λ (y : Addition) (e : ltb (y .purse) (length (b .purses)) ≡ true). lt-ltb (y .purse) (length (c .purses)) (omega (arith, n .grown .more, ltb-true (y .purse) (length (b .purses)) e)))
+          (h .reach))
+          (n .reach);
       counts = λ (d : Details). omega (arith, tp d, ta d, n .counts d);
       backed =
           λ (m : Message) (l : 1 ≤ countM m (c .messages)).
           ⊎-elim
           (λ (e : 1 ≤ countM m (b .messages)).
-          let k : Backed b P A m = h .backed m e in
+          let k : Backed b s m = h .backed m e in
           record {
             request = λ j. omega (arith, k .request j, n .rises (m .details), ta (m .details));
             value = λ j. omega (arith, k .value j, tp (m .details));
@@ -155,15 +179,16 @@ other-payer p d D e n = rw (refute (sameDetails d D) (λ (x : sameDetails d D �
 other-payee : (p : ℕ) (d D : Details) → D .payee .0 ≡ p → (d .payee .0 ≡ p → ⊥) → bit (sameDetails d D) ≡ 0
 other-payee p d D e n = rw (refute (sameDetails d D) (λ (x : sameDetails d D ≡ true). n (is-same d D x .payee ∙ e)))
 
--- one payment's share in a sum
-share : (f : Details → ℕ) (p : ℕ) (D : Details) → total amountOf (keep (λ (d : Details). eqb (f d) p) (D ∷ [])) ≡ cond (eqb (f D) p) (amountOf D) 0
-share f p D = ⊎-elim (λ (e : eqb (f D) p ≡ true). rw e (omega arith)) (λ (e : eqb (f D) p ≡ false). rw e) (which (eqb (f D) p))
+-- one share in a sum
+module _ {A : Type 0} (w f : A → ℕ) (p : ℕ) (D : A) where
+  share : total w (keep (λ (d : A). eqb (f d) p) (D ∷ [])) ≡ cond (eqb (f D) p) (w D) 0
+  share = ⊎-elim (λ (e : eqb (f D) p ≡ true). rw e (omega arith)) (λ (e : eqb (f D) p ≡ false). rw e) (which (eqb (f D) p))
 
-share-yes : (f : Details → ℕ) (p : ℕ) (D : Details) → f D ≡ p → total amountOf (keep (λ (d : Details). eqb (f d) p) (D ∷ [])) ≡ amountOf D
-share-yes f p D e = share f p D ∙ rw (eq-eqb (f D) p e)
+  share-yes : f D ≡ p → total w (keep (λ (d : A). eqb (f d) p) (D ∷ [])) ≡ w D
+  share-yes e = share ∙ rw (eq-eqb (f D) p e)
 
-share-no : (f : Details → ℕ) (p : ℕ) (D : Details) → (f D ≡ p → ⊥) → total amountOf (keep (λ (d : Details). eqb (f d) p) (D ∷ [])) ≡ 0
-share-no f p D e = share f p D ∙ rw (ne-eqb (f D) p e)
+  share-no : (f D ≡ p → ⊥) → total w (keep (λ (d : A). eqb (f d) p) (D ∷ [])) ≡ 0
+  share-no e = share ∙ rw (ne-eqb (f D) p e)
 
 -- what a move of one purse does to the counts of d on the payer's side and on the payee's
 record PayerSide (d : Details) (r r′ a a′ k : ℕ) (o n : Purse) : Type 0 where
@@ -183,19 +208,27 @@ by-same d D T f g =
     (λ (e : sameDetails d D ≡ false). g (rw e))
     (which (sameDetails d D))
 
-module _ (opening : ℕ → ℕ) (b : Bench) (t : Table b) (P A : List Details) (h : History opening b P A) where
+module _ (opening : ℕ → ℕ) (b : Bench) (t : Table b) (s : Effect) (h : History opening b s) where
+  -- the details paid and arrived so far
+  abbrev P : List Details
+  P = s .paid
+
+  abbrev A : List Details
+  A = s .arrived
+
   -- a move of purse p that leaves its balance
-  same-money : (p : ℕ) (q : Purse) → p < length (b .purses) → q .balance .0 ≡ purseAt b p .balance .0 → (k : ℕ) → balanceAt (withPurse b p q) k + 0 ≡ balanceAt b k + 0
-  same-money p q hp e k = put-cases b p q hp k (λ (o n : Purse). n .balance .0 + 0 ≡ o .balance .0 + 0) (λ z. omega arith) (λ z r. refl)
+  same-money : (p : ℕ) (q : Purse) → p < length (b .purses) → q .balance .0 ≡ purseAt b p .balance .0 → (k : ℕ) → balanceAt (withPurse b p q) k + 0 ≡ balanceAt b k + 0 + 0
+  same-money p q hp e k = put-cases b p q hp k (λ (o n : Purse). n .balance .0 + 0 ≡ o .balance .0 + 0 + 0) (λ z. omega arith) (λ z r. omega arith)
 
   -- a move of purse p alone that pays nothing and by which nothing arrives
-  quiet : (p : ℕ) (q : Purse) → p < length (b .purses) → purseAt b p .next .0 ≤ q .next .0 → q .balance .0 ≡ purseAt b p .balance .0 → ((d : Details) → CountsAt (withPurse b p q) d (countD d P + 0) (countD d A + 0)) → ((d : Details) → epv b d + payeeLog b d ≤ epv (withPurse b p q) d + payeeLog (withPurse b p q) d) → History opening (withPurse b p q) (P ++ []) (A ++ [])
+  quiet : (p : ℕ) (q : Purse) → p < length (b .purses) → purseAt b p .next .0 ≤ q .next .0 → q .balance .0 ≡ purseAt b p .balance .0 → ((d : Details) → CountsAt (withPurse b p q) d (countD d P + 0) (countD d A + 0)) → ((d : Details) → epv b d + payeeLog b d ≤ epv (withPurse b p q) d + payeeLog (withPurse b p q) d) → History opening (withPurse b p q) (joined s nothing)
   quiet p q hp later balance cs up =
       after h
       (record {
         grown = grown-put b p q hp later;
-        money = λ k l. same-money p q hp balance k;
+        money = λ k. same-money p q hp balance k;
         placed = λ d l. absurd (omega arith);
+        reach = refl;
         counts = cs;
         rises = λ (d : Details). omega (arith, up d);
         backed = λ m l. inl l;
@@ -214,11 +247,11 @@ module _ (opening : ℕ → ℕ) (b : Bench) (t : Table b) (P A : List Details) 
       (λ e. record { epv = omega (arith, at-no q 2 d n2, at-no (purseAt b p) 2 d o2); log = omega (arith, log d e) })
       (λ e r. record { epv = refl; log = omega arith })
 
-  hist-from : (p : ℕ) (o : Name) (s : Seq) (a : Amount) → Started b p (o .0) → Good p (begunFrom b p o s a) → History opening (withPurse b p (begunFrom b p o s a)) (P ++ []) (A ++ [])
-  hist-from p o s a st w =
+  hist-from : (p : ℕ) (o : Name) (u : Seq) (a : Amount) → Started b p (o .0) → Good p (begunFrom b p o u a) → History opening (withPurse b p (begunFrom b p o u a)) (joined s nothing)
+  hist-from p o u a st w =
       let q : Purse = purseAt b p in
-      let q′ : Purse = begunFrom b p o s a in
-      let D : Details = fromOf b p o s a in
+      let q′ : Purse = begunFrom b p o u a in
+      let D : Details = fromOf b p o u a in
       let c : Bench = withPurse b p q′ in
       let z : q .status ≡ 0 = st .idle in
       let no : (k : ℕ) → 1 ≤ k → (d : Details) → bit (isAt k q d) ≡ 0 = λ (k : ℕ) (l : 1 ≤ k) (d : Details). at-no q k d (λ (y : q .status ≡ k). omega arith) in
@@ -240,19 +273,19 @@ module _ (opening : ℕ → ℕ) (b : Bench) (t : Table b) (P A : List Details) 
       (λ (d : Details). omega (arith, es d))
 
   -- a message that was sent, and what backs it
-  sent-backed : (c : Bench) (x y : List Details) (m₀ : Message) (ms : List Message) → c .messages ≡ ms → Sent b m₀ ms → Backed c (P ++ x) (A ++ y) m₀ → (m : Message) → 1 ≤ countM m (c .messages) → (1 ≤ countM m (b .messages)) ⊎ Backed c (P ++ x) (A ++ y) m
-  sent-backed c x y m₀ ms e s k m l =
+  sent-backed : (c : Bench) (x : Effect) (m₀ : Message) (ms : List Message) → c .messages ≡ ms → Sent b m₀ ms → Backed c (joined s x) m₀ → (m : Message) → 1 ≤ countM m (c .messages) → (1 ≤ countM m (b .messages)) ⊎ Backed c (joined s x) m
+  sent-backed c x m₀ ms e sn k m l =
       ⊎-elim
       (λ (f : ms ≡ b .messages). inl (rw (e ∙ f) at l))
       (λ (f : (ms ≡ b .messages ++ (m₀ ∷ [])) × (length (b .messages) < 256)).
-      at-end m₀ m (b .messages) (λ (m : Message). (1 ≤ countM m (b .messages)) ⊎ Backed c (P ++ x) (A ++ y) m) (rw (e ∙ f .0) at l) (inr k) (λ j. inl j))
-      s
+      at-end m₀ m (b .messages) (λ (m : Message). (1 ≤ countM m (b .messages)) ⊎ Backed c (joined s x) m) (rw (e ∙ f .0) at l) (inr k) (λ j. inl j))
+      sn
 
-  hist-to : (p : ℕ) (o : Name) (s : Seq) (a : Amount) → Started b p (o .0) → Good p (begunTo b p o s a) → (ms : List Message) → Sent b (messageOf request (toOf b p o s a)) ms → History opening (withMessages (withPurse b p (begunTo b p o s a)) ms) (P ++ []) (A ++ [])
-  hist-to p o s a st w ms sn =
+  hist-to : (p : ℕ) (o : Name) (u : Seq) (a : Amount) → Started b p (o .0) → Good p (begunTo b p o u a) → (ms : List Message) → Sent b (messageOf request (toOf b p o u a)) ms → History opening (withMessages (withPurse b p (begunTo b p o u a)) ms) (joined s nothing)
+  hist-to p o u a st w ms sn =
       let q : Purse = purseAt b p in
-      let q′ : Purse = begunTo b p o s a in
-      let D : Details = toOf b p o s a in
+      let q′ : Purse = begunTo b p o u a in
+      let D : Details = toOf b p o u a in
       let c : Bench = withMessages (withPurse b p q′) ms in
       let z : q .status ≡ 0 = st .idle in
       let no : (k : ℕ) → 1 ≤ k → (d : Details) → bit (isAt k q d) ≡ 0 = λ (k : ℕ) (l : 1 ≤ k) (d : Details). at-no q k d (λ (y : q .status ≡ k). omega arith) in
@@ -266,15 +299,16 @@ module _ (opening : ℕ → ℕ) (b : Bench) (t : Table b) (P A : List Details) 
       (λ e r. record { epv = omega (arith, other-payee p d D refl e); log = omega arith })
       in
       let apart : (o .0 ≡ p → ⊥) = busy-apart (called p) q′ w (λ (z : 2 ≡ 0). omega arith) in
-      let unlogged : countD D (kept q) + countD D (archivedBy p (b .archive)) ≡ 0 = fresh-to b t p o s a (st .here) apart in
+      let unlogged : countD D (kept q) + countD D (archivedBy p (b .archive)) ≡ 0 = fresh-to b t p o u a (st .here) apart in
       let fresh : countD D P ≡ 0 = none _ (λ (l : 1 ≤ countD D P). omega (arith, h .placed D l .payeeseq)) in
       let here : bit (sameDetails D D) ≡ 1 = rw (details-same D) in
       let ta : countD D (A ++ []) ≡ countD D A + 0 = times-append sameDetails D A [] in
       after h
       (record {
         grown = grown-with ms (b .archive) (grown-put b p q′ (st .here) (omega arith));
-        money = λ k l. same-money p q′ (st .here) refl k;
+        money = λ k. same-money p q′ (st .here) refl k;
         placed = λ d l. absurd (omega arith);
+        reach = refl;
         counts =
             λ (d : Details).
             by-same d D (λ (d : Details). CountsAt c d (countD d P + 0) (countD d A + 0))
@@ -282,11 +316,11 @@ module _ (opening : ℕ → ℕ) (b : Bench) (t : Table b) (P A : List Details) 
             (λ none. omega (arith, ps d, es d, h .counts d));
         rises = λ (d : Details). omega (arith, es d .epv, es d .log);
         backed =
-            sent-backed c [] [] (messageOf request D) ms refl sn
+            sent-backed c nothing (messageOf request D) ms refl sn
             (record { request = λ j. omega (arith, es D .epv); value = λ (j : 1 ≡ 2). absurd (omega arith); acknowledge = λ (j : 1 ≡ 3). absurd (omega arith) });
       })
 
-  hist-pay : (p : ℕ) → Taking b p request → Good p (payerAfter b p) → (ms : List Message) → Sent b (messageOf value (purseAt b p .details)) ms → History opening (withMessages (withPurse b p (payerAfter b p)) ms) (P ++ (purseAt b p .details ∷ [])) (A ++ [])
+  hist-pay : (p : ℕ) → Taking b p request → Good p (payerAfter b p) → (ms : List Message) → Sent b (messageOf value (purseAt b p .details)) ms → History opening (withMessages (withPurse b p (payerAfter b p)) ms) (joined s (pays (purseAt b p .details)))
   hist-pay p g w ms sn =
       let q : Purse = purseAt b p in
       let q′ : Purse = payerAfter b p in
@@ -314,14 +348,15 @@ module _ (opening : ℕ → ℕ) (b : Bench) (t : Table b) (P A : List Details) 
       (record {
         grown = gr;
         money =
-            λ k l.
-            put-cases b p q′ (g .here) k (λ (o n : Purse). n .balance .0 + paidOut k (D ∷ []) ≡ o .balance .0 + 0)
-            (λ e. omega (arith, share-yes (λ (d : Details). d .payer .0) k D (mine ∙ sym e)))
-            (λ e r. omega (arith, share-no (λ (d : Details). d .payer .0) k D (λ (y : D .payer .0 ≡ k). e (sym y ∙ mine))));
+            λ k.
+            put-cases b p q′ (g .here) k (λ (o n : Purse). n .balance .0 + paidOut k (D ∷ []) ≡ o .balance .0 + 0 + 0)
+            (λ e. omega (arith, share-yes amountOf (λ (d : Details). d .payer .0) k D (mine ∙ sym e)))
+            (λ e r. omega (arith, share-no amountOf (λ (d : Details). d .payer .0) k D (λ (y : D .payer .0 ≡ k). e (sym y ∙ mine))));
         placed =
             λ (d : Details) (l : 1 ≤ bit (sameDetails d D) + 0).
             rw (details-equal d D (bit-yes _ (omega arith)))
             (placed-later gr (record { payer = k .table .payer; payee = k .table .payee; payerseq = omega (arith, role .high); payeeseq = k .payee-high }));
+        reach = refl;
         counts =
             λ (d : Details).
             by-same d D (λ (d : Details). CountsAt c d (countD d P + (bit (sameDetails d D) + 0)) (countD d A + 0))
@@ -329,7 +364,7 @@ module _ (opening : ℕ → ℕ) (b : Bench) (t : Table b) (P A : List Details) 
             (λ none. omega (arith, ps d, es d, h .counts d));
         rises = λ (d : Details). omega (arith, es d .epv, es d .log);
         backed =
-            sent-backed c (D ∷ []) [] (messageOf value D) ms refl sn
+            sent-backed c (pays D) (messageOf value D) ms refl sn
             (record {
               request = λ (j : 2 ≡ 1). absurd (omega arith);
               value = λ j. omega (arith, times-append sameDetails D P (D ∷ []));
@@ -337,7 +372,7 @@ module _ (opening : ℕ → ℕ) (b : Bench) (t : Table b) (P A : List Details) 
             });
       })
 
-  hist-get : (p : ℕ) → Taking b p value → Good p (payeeAfter b p) → (ms : List Message) → Sent b (messageOf acknowledge (purseAt b p .details)) ms → History opening (withMessages (withPurse b p (payeeAfter b p)) ms) (P ++ []) (A ++ (purseAt b p .details ∷ []))
+  hist-get : (p : ℕ) → Taking b p value → Good p (payeeAfter b p) → (ms : List Message) → Sent b (messageOf acknowledge (purseAt b p .details)) ms → History opening (withMessages (withPurse b p (payeeAfter b p)) ms) (joined s (gets (purseAt b p .details)))
   hist-get p g w ms sn =
       let q : Purse = purseAt b p in
       let q′ : Purse = payeeAfter b p in
@@ -361,11 +396,12 @@ module _ (opening : ℕ → ℕ) (b : Bench) (t : Table b) (P A : List Details) 
       (record {
         grown = grown-with ms (b .archive) (grown-put b p q′ (g .here) (omega arith));
         money =
-            λ k l.
-            put-cases b p q′ (g .here) k (λ (o n : Purse). n .balance .0 + 0 ≡ o .balance .0 + takenIn k (D ∷ []))
-            (λ e. omega (arith, share-yes (λ (d : Details). d .payee .0) k D (mine ∙ sym e)))
-            (λ e r. omega (arith, share-no (λ (d : Details). d .payee .0) k D (λ (y : D .payee .0 ≡ k). e (sym y ∙ mine))));
+            λ k.
+            put-cases b p q′ (g .here) k (λ (o n : Purse). n .balance .0 + 0 ≡ o .balance .0 + 0 + takenIn k (D ∷ []))
+            (λ e. omega (arith, share-yes amountOf (λ (d : Details). d .payee .0) k D (mine ∙ sym e)))
+            (λ e r. omega (arith, share-no amountOf (λ (d : Details). d .payee .0) k D (λ (y : D .payee .0 ≡ k). e (sym y ∙ mine))));
         placed = λ d l. absurd (omega arith);
+        reach = refl;
         counts =
             λ (d : Details).
             by-same d D (λ (d : Details). CountsAt c d (countD d P + 0) (countD d A + (bit (sameDetails d D) + 0)))
@@ -373,7 +409,7 @@ module _ (opening : ℕ → ℕ) (b : Bench) (t : Table b) (P A : List Details) 
             (λ none. omega (arith, ps d, es d, h .counts d));
         rises = λ (d : Details). omega (arith, es d .epv, es d .log);
         backed =
-            sent-backed c [] (D ∷ []) (messageOf acknowledge D) ms refl sn
+            sent-backed c (gets D) (messageOf acknowledge D) ms refl sn
             (record {
               request = λ (j : 3 ≡ 1). absurd (omega arith);
               value = λ (j : 3 ≡ 2). absurd (omega arith);
@@ -381,7 +417,7 @@ module _ (opening : ℕ → ℕ) (b : Bench) (t : Table b) (P A : List Details) 
             });
       })
 
-  hist-settle : (p : ℕ) → Taking b p acknowledge → Good p (idleAfter b p) → History opening (withPurse b p (idleAfter b p)) (P ++ []) (A ++ [])
+  hist-settle : (p : ℕ) → Taking b p acknowledge → Good p (idleAfter b p) → History opening (withPurse b p (idleAfter b p)) (joined s nothing)
   hist-settle p g w =
       let q : Purse = purseAt b p in
       let q′ : Purse = idleAfter b p in
@@ -407,7 +443,7 @@ module _ (opening : ℕ → ℕ) (b : Bench) (t : Table b) (P A : List Details) 
       (λ none. omega (arith, ps d, es d, h .counts d)))
       (λ (d : Details). omega (arith, es d))
 
-  hist-quit : (p : ℕ) → p < length (b .purses) → purseAt b p .status ≡ 1 → Good p (idleAfter b p) → History opening (withPurse b p (idleAfter b p)) (P ++ []) (A ++ [])
+  hist-quit : (p : ℕ) → p < length (b .purses) → purseAt b p .status ≡ 1 → Good p (idleAfter b p) → History opening (withPurse b p (idleAfter b p)) (joined s nothing)
   hist-quit p hp z w =
       let q : Purse = purseAt b p in
       let q′ : Purse = idleAfter b p in
@@ -429,7 +465,7 @@ module _ (opening : ℕ → ℕ) (b : Bench) (t : Table b) (P A : List Details) 
   crossed′ : (p : ℕ) (d D : Details) → d .payee .0 ≡ p → D .payer .0 ≡ p → (D .payer .0 ≡ D .payee .0 → ⊥) → bit (sameDetails d D) ≡ 0
   crossed′ p d D e f n = rw (refute (sameDetails d D) (λ (x : sameDetails d D ≡ true). n (f ∙ (sym e ∙ is-same d D x .payee))))
 
-  hist-stop : (p : ℕ) → p < length (b .purses) → 2 ≤ purseAt b p .status → Good p (stopped (purseAt b p)) → History opening (withPurse b p (stopped (purseAt b p))) (P ++ []) (A ++ [])
+  hist-stop : (p : ℕ) → p < length (b .purses) → 2 ≤ purseAt b p .status → Good p (stopped (purseAt b p)) → History opening (withPurse b p (stopped (purseAt b p))) (joined s nothing)
   hist-stop p hp l w =
       let q : Purse = purseAt b p in
       let q′ : Purse = stopped q in
@@ -469,27 +505,28 @@ module _ (opening : ℕ → ℕ) (b : Bench) (t : Table b) (P A : List Details) 
       (λ (d : Details). omega (arith, es d)))
       (status-high (called p) q (t .well p hp) l)
 
-  hist-drop : (i : ℕ) → i < length (b .messages) → History opening (withMessages b (without i (b .messages))) (P ++ []) (A ++ [])
+  hist-drop : (i : ℕ) → i < length (b .messages) → History opening (withMessages b (without i (b .messages))) (joined s nothing)
   hist-drop i l =
       after h
       (record {
-        grown = record { same = refl; next = λ (k : ℕ). omega arith };
-        money = λ k l. refl;
+        grown = record { more = omega arith; next = λ (k : ℕ). omega arith };
+        money = λ k. omega arith;
         placed = λ d l. absurd (omega arith);
+        reach = refl;
         counts = λ (d : Details). omega (arith, h .counts d);
         rises = λ (d : Details). omega arith;
         backed = λ m j. inl (omega (arith, times-split sameMessage m (b .messages) i zeroMessage l));
       })
 
-  hist-collect : (p : ℕ) → p < length (b .purses) → 0 < purseAt b p .logged → Good p (taken (purseAt b p)) → length (b .archive) < 256 → History opening (withArchive (withPurse b p (taken (purseAt b p))) (b .archive ++ (record { by = called p; details = getD (purseAt b p .log) 0 zeroDetails } ∷ []))) (P ++ []) (A ++ [])
+  hist-collect : (p : ℕ) → p < length (b .purses) → 0 < purseAt b p .logged → Good p (taken (purseAt b p)) → length (b .archive) < 256 → History opening (withArchive (withPurse b p (taken (purseAt b p))) (b .archive ++ (record { by = called p; details = getD (purseAt b p .log) 0 zeroDetails } ∷ []))) (joined s nothing)
   hist-collect p hp l w room =
       let q : Purse = purseAt b p in
       let q′ : Purse = taken q in
       let D : Details = getD (purseAt b p .log) 0 zeroDetails in
       let E : Entry = record { by = called p; details = D } in
       let c : Bench = withArchive (withPurse b p q′) (b .archive ++ (E ∷ [])) in
-      let same : (k s : ℕ) (d : Details) → bit (isAt s (purseAt c k) d) ≡ bit (isAt s (purseAt b k) d) =
-      λ (k s : ℕ) (d : Details). put-cases b p q′ hp k (λ (o n : Purse). bit (isAt s n d) ≡ bit (isAt s o d)) (λ e. refl) (λ e r. refl)
+      let same : (k i : ℕ) (d : Details) → bit (isAt i (purseAt c k) d) ≡ bit (isAt i (purseAt b k) d) =
+      λ (k i : ℕ) (d : Details). put-cases b p q′ hp k (λ (o n : Purse). bit (isAt i n d) ≡ bit (isAt i o d)) (λ e. refl) (λ e r. refl)
       in
       let logs : (k : ℕ) (d : Details) → countD d (kept (purseAt c k)) + countD d (archivedBy k (b .archive ++ (E ∷ []))) ≡ countD d (kept (purseAt b k)) + countD d (archivedBy k (b .archive)) =
       λ (k : ℕ) (d : Details).
@@ -504,17 +541,58 @@ module _ (opening : ℕ → ℕ) (b : Bench) (t : Table b) (P A : List Details) 
       after h
       (record {
         grown = grown-with (b .messages) (b .archive ++ (E ∷ [])) (grown-put b p q′ hp (omega arith));
-        money = λ k l. same-money p q′ hp refl k;
+        money = λ k. same-money p q′ hp refl k;
         placed = λ d l. absurd (omega arith);
+        reach = refl;
         counts = λ (d : Details). omega (arith, same (d .payer .0) 1 d, same (d .payer .0) 3 d, same (d .payee .0) 2 d, logs (d .payer .0) d, logs (d .payee .0) d, h .counts d);
         rises = λ (d : Details). omega (arith, same (d .payee .0) 2 d, logs (d .payee .0) d);
         backed = λ m l. inl l;
       })
 
-  pub history-moves : Moves b (λ (c : Bench) (x y : List Details). History opening c (P ++ x) (A ++ y))
+  -- an amount added to purse p, in the table or next to it, whose state and log stay as they were
+  hist-added : (p v : ℕ) (q : Purse) (ps : List Purse) → Replaced b p q ps → p < length ps → ((k : ℕ) (d : Details) → bit (isAt k q d) ≡ bit (isAt k (purseAt b p) d)) → ((d : Details) → countD d (kept q) ≡ countD d (kept (purseAt b p))) → purseAt b p .next .0 ≤ q .next .0 → q .balance .0 ≡ purseAt b p .balance .0 + v → History opening (withPurses b ps) (joined s (adds p v))
+  hist-added p v q ps rp hp state log later balance =
+      let c : Bench = withPurses b ps in
+      let D : Addition = record { purse = p; amount = v } in
+      let same : (k i : ℕ) (d : Details) → bit (isAt i (purseAt c k) d) ≡ bit (isAt i (purseAt b k) d) =
+      λ (k i : ℕ) (d : Details). replace-cases b p q ps rp k (λ (o n : Purse). bit (isAt i n d) ≡ bit (isAt i o d)) (λ e. state i d) (λ e r. refl)
+      in
+      let logs : (k : ℕ) (d : Details) → countD d (kept (purseAt c k)) ≡ countD d (kept (purseAt b k)) =
+      λ (k : ℕ) (d : Details). replace-cases b p q ps rp k (λ (o n : Purse). countD d (kept n) ≡ countD d (kept o)) (λ e. log d) (λ e r. refl)
+      in
+      after h
+      (record {
+        grown = grown-list b p q ps rp later;
+        money =
+            λ k.
+            replace-cases b p q ps rp k (λ (o n : Purse). n .balance .0 + 0 ≡ o .balance .0 + addedTo k (D ∷ []) + 0)
+            (λ e. omega (arith, balance, share-yes sumOf (λ (x : Addition). x .purse) k D (sym e)))
+            (λ e r. omega (arith, share-no sumOf (λ (x : Addition). x .purse) k D (λ (y : p ≡ k). e (sym y))));
+        placed = λ d l. absurd (omega arith);
+        reach = and-i (lt-ltb _ _ hp) refl;
+        counts = λ (d : Details). omega (arith, same (d .payer .0) 1 d, same (d .payer .0) 3 d, same (d .payee .0) 2 d, logs (d .payer .0) d, logs (d .payee .0) d, h .counts d);
+        rises = λ (d : Details). omega (arith, same (d .payee .0) 2 d, logs (d .payee .0) d);
+        backed = λ m l. inl l;
+      })
+
+  hist-issue : (v : ℕ) → length (b .purses) < 32 → v ≤ ceiling (openedAt v) → History opening (withNew b v) (joined s (adds (length (b .purses)) v))
+  hist-issue v few low =
+      let end : length (b .purses) ≤ length (b .purses) = omega arith in
+      let none : purseAt b (length (b .purses)) ≡ zeroPurse = List·getD-eq-default (b .purses) zeroPurse end in
+      hist-added (length (b .purses)) v (openedAt v) (b .purses ++ (openedAt v ∷ [])) (new-replaced b (openedAt v))
+      (omega (arith, length-append (b .purses) (openedAt v ∷ [])))
+      (λ k d. rw none) (λ d. rw none) (rw none (omega arith)) (rw none (omega arith))
+
+  hist-load : (p : ℕ) (a : Amount) → p < length (b .purses) → purseAt b p .status ≡ 0 → Good p (raised a (purseAt b p)) → History opening (withPurse b p (raised a (purseAt b p))) (joined s (adds p (a .0)))
+  hist-load p a hp z w =
+      hist-added p (a .0) (raised a (purseAt b p)) (set (b .purses) p (raised a (purseAt b p))) (put-replaced b p (raised a (purseAt b p)) hp)
+      (omega (arith, length-set (b .purses) p (raised a (purseAt b p))))
+      (λ k d. refl) (λ d. refl) (omega arith) refl
+
+  pub history-moves : Moves b (λ (c : Bench) (x : Effect). History opening c (joined s x))
   history-moves =
       record {
-        stays = rw (append-nil P, append-nil A) h;
+        stays = rw (append-nil (s .paid), append-nil (s .arrived), append-nil (s .added)) h;
         from = hist-from;
         to = hist-to;
         pay = hist-pay;
@@ -524,15 +602,25 @@ module _ (opening : ℕ → ℕ) (b : Bench) (t : Table b) (P A : List Details) 
         stop = hist-stop;
         drop = hist-drop;
         collect = hist-collect;
+        issue = hist-issue;
+        load = hist-load;
       }
 
 -- each step keeps the history's facts
-pub history-step : (opening : ℕ → ℕ) (b : Bench) (P A : List Details) (l : List ℕ) → tableOk b ≡ true → History opening b P A → History opening (step b l .bench) (P ++ movedBy 1 b l) (A ++ movedBy 2 b l)
-history-step opening b P A l w h =
-    step-moves b (is-table b w) (λ (c : Bench) (x y : List Details). History opening c (P ++ x) (A ++ y)) (history-moves opening b (is-table b w) P A h) w l
+pub history-step : (opening : ℕ → ℕ) (b : Bench) (s : Effect) (l : List ℕ) → tableOk b ≡ true → History opening b s → History opening (step b l .bench) (joined s (effectBy b l))
+history-step opening b s l w h =
+    step-moves b (is-table b w) (λ (c : Bench) (x : Effect). History opening c (joined s x)) (history-moves opening b (is-table b w) s h) w l
 
-pub history-run : (opening : ℕ → ℕ) (b : Bench) (P A : List Details) (ls : List (List ℕ)) → tableOk b ≡ true → History opening b P A → History opening (run b ls) (P ++ paid b ls) (A ++ arrived b ls)
-history-run opening b P A [] w h = rw (append-nil P, append-nil A) h
-history-run opening b P A (l ∷ ls) w h =
-    rw (← append-assoc P (movedBy 1 b l) (moved 1 (step b l .bench) ls), ← append-assoc A (movedBy 2 b l) (moved 2 (step b l .bench) ls))
-    (history-run opening (step b l .bench) (P ++ movedBy 1 b l) (A ++ movedBy 2 b l) ls (keep-step b l w) (history-step opening b P A l w h))
+-- all that a run moved
+abbrev pub movedBy : Bench → List (List ℕ) → Effect
+movedBy b ls = record { paid = paid b ls; arrived = arrived b ls; added = added b ls }
+
+pub history-run : (opening : ℕ → ℕ) (b : Bench) (s : Effect) (ls : List (List ℕ)) → tableOk b ≡ true → History opening b s → History opening (run b ls) (joined s (movedBy b ls))
+history-run opening b s [] w h = rw (append-nil (s .paid), append-nil (s .arrived), append-nil (s .added)) h
+history-run opening b s (l ∷ ls) w h =
+    rw (
+      ← append-assoc (s .paid) (effectBy b l .paid) (paid (step b l .bench) ls),
+      ← append-assoc (s .arrived) (effectBy b l .arrived) (arrived (step b l .bench) ls),
+      ← append-assoc (s .added) (effectBy b l .added) (added (step b l .bench) ls),
+    )
+    (history-run opening (step b l .bench) (joined s (effectBy b l)) ls (keep-step b l w) (history-step opening b s l w h))

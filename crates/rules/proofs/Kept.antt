@@ -5,7 +5,7 @@ use mathlib.Core.Path.{_≡_, refl, _∙_, sym, ap}
 use mathlib.Core.Bool.{Bool, true, false}
 use mathlib.Core.Logic.{inl, inr, ⊎-elim}
 use mathlib.Core.List.{List, [], _∷_, _++_}
-use lib.ListN.{length, getD}
+use lib.ListN.{length, getD, length-append, List·getD-eq-default}
 use lib.Seq.{getD-set-same}
 use lib.Dec.{leb}
 use native.Mathlib.Omega.{arith}
@@ -16,20 +16,21 @@ use Rattle.purse.specs.declared.Amount.{Amount}
 use Rattle.purse.specs.declared.Details.{Details}
 use Rattle.purse.specs.declared.Message.{Message}
 use Rattle.purse.specs.declared.Purse.{Purse}
-use Rattle.purse.specs.Details.{request, value, acknowledge, zeroDetails, sameDetails, entryOk}
-use Rattle.purse.specs.Step.{idleWith, stopped, taken}
-use Rattle.purse.specs.Purse.{zeroPurse}
+use Rattle.purse.specs.Details.{request, value, acknowledge, zeroDetails, sameDetails, asPayer, asPayee, entryOk}
+use Rattle.purse.specs.Step.{idleWith, stopped, taken, raised}
+use Rattle.purse.specs.Purse.{ceiling, zeroPurse}
 use Rattle.purse.proofs.Bools.{which, refute, and-i}
-use Rattle.purse.proofs.Payments.{Same, is-same, fresh-payer, fresh-payee}
+use Rattle.purse.proofs.Payments.{Same, is-same, as-payer, as-payee, entry-role, fresh-payer, fresh-payee}
 use Rattle.purse.proofs.Rules.{wf-bounds, Bounds}
 use Rattle.purse.proofs.Count.{none, bit, bit-le}
-use Rattle.rules.specs.Bench.{Bench, called, purseAt, running, kept, archivedBy, isAt}
+use Rattle.rules.specs.Bench.{Bench, called, openedAt, purseAt, running, kept, archivedBy, isAt}
 use Rattle.rules.specs.Table.{tableOk}
-use Rattle.rules.specs.Steps.{withPurse, withMessages, withArchive, step}
+use Rattle.rules.specs.Steps.{withPurse, withNew, withMessages, withArchive, step}
 use Rattle.rules.specs.Run.{run}
-use Rattle.rules.proofs.Facts.{details-equal, details-same, countD, countM, InTable, MessageOk, ClearOk, Table, is-table, table-is}
-use Rattle.rules.proofs.Puts.{in-later, message-later, entry-grown, grown-put, put-purse, put-message, lose-message, put-entry}
-use Rattle.rules.proofs.Purses.{OwnPayer, OwnPayee, payer-role, payee-role, busy-named, busy-apart, kept-entry, kept-stopped, kept-taken}
+use Rattle.rules.specs.Paid.{Effect}
+use Rattle.rules.proofs.Facts.{details-equal, details-same, countD, countM, InTable, MessageOk, ClearOk, EntryOk, Table, is-table, table-is}
+use Rattle.rules.proofs.Puts.{in-later, message-later, entry-grown, grown-put, new-replaced, put-list, put-purse, put-message, lose-message, put-entry}
+use Rattle.rules.proofs.Purses.{OwnPayer, OwnPayee, payer-role, payee-role, busy-named, busy-apart, kept-entry, kept-stopped, kept-taken, well-opened}
 use Rattle.rules.proofs.Moves.{fromOf, toOf, messageOf, begunFrom, begunTo, payerAfter, payeeAfter, Started, Taking, Sent, Good, Moves, step-moves}
 
 -- no Bool is both
@@ -100,9 +101,8 @@ module _ (b : Bench) (t : Table b) where
   put-from p o s a st w =
       let D : Details = fromOf b p o s a in
       let apart : (p ≡ o .0 → ⊥) = busy-apart (called p) (begunFrom b p o s a) w (λ (z : 1 ≡ 0). omega arith) in
-      put-purse b p (begunFrom b p o s a) t
+      put-purse b p (begunFrom b p o s a) (st .here) t
       (record {
-        here = st .here;
         well = w;
         later = omega arith;
         names = begun-names p D (st .here) (record { payer = st .here; payee = st .other });
@@ -123,9 +123,8 @@ module _ (b : Bench) (t : Table b) where
   put-to p o s a st w =
       let D : Details = toOf b p o s a in
       let apart : (o .0 ≡ p → ⊥) = busy-apart (called p) (begunTo b p o s a) w (λ (z : 2 ≡ 0). omega arith) in
-      put-purse b p (begunTo b p o s a) t
+      put-purse b p (begunTo b p o s a) (st .here) t
       (record {
-        here = st .here;
         well = w;
         later = omega arith;
         names = begun-names p D (st .here) (record { payer = st .other; payee = st .here });
@@ -151,9 +150,8 @@ module _ (b : Bench) (t : Table b) where
   -- a purse that becomes idle, its log the same
   put-idle : (p : ℕ) (v : ℕ) → p < length (b .purses) → Good p (idleWith (record { 0 = v }) (purseAt b p)) → Table (withPurse b p (idleWith (record { 0 = v }) (purseAt b p)))
   put-idle p v hp w =
-      put-purse b p (idleWith (record { 0 = v }) (purseAt b p)) t
+      put-purse b p (idleWith (record { 0 = v }) (purseAt b p)) hp t
       (record {
-        here = hp;
         well = w;
         later = omega arith;
         names = λ d h. t .names p hp d (omega arith);
@@ -165,9 +163,8 @@ module _ (b : Bench) (t : Table b) where
   put-paid : (p : ℕ) → Taking b p request → Good p (payerAfter b p) → Table (withPurse b p (payerAfter b p))
   put-paid p g w =
       let busy : (purseAt b p .status ≡ 0 → ⊥) = λ (z : purseAt b p .status ≡ 0). omega (arith, g .status) in
-      put-purse b p (payerAfter b p) t
+      put-purse b p (payerAfter b p) (g .here) t
       (record {
-        here = g .here;
         well = w;
         later = omega arith;
         names = λ d h. t .names p (g .here) d (omega (arith, running-busy (purseAt b p) d busy));
@@ -180,9 +177,8 @@ module _ (b : Bench) (t : Table b) where
   put-stopped p hp l w =
       let busy : (purseAt b p .status ≡ 0 → ⊥) = λ (z : purseAt b p .status ≡ 0). omega arith in
       let q : Purse = purseAt b p in
-      put-purse b p (stopped (purseAt b p)) t
+      put-purse b p (stopped (purseAt b p)) hp t
       (record {
-        here = hp;
         well = w;
         later = omega arith;
         names = λ d h. t .names p hp d (omega (arith, running-busy q d busy, kept-stopped (called p) q (t .well p hp) busy d));
@@ -194,15 +190,52 @@ module _ (b : Bench) (t : Table b) where
   put-taken : (p : ℕ) → p < length (b .purses) → 0 < purseAt b p .logged → Good p (taken (purseAt b p)) → Table (withPurse b p (taken (purseAt b p)))
   put-taken p hp l w =
       let q : Purse = purseAt b p in
-      put-purse b p (taken (purseAt b p)) t
+      put-purse b p (taken (purseAt b p)) hp t
       (record {
-        here = hp;
         well = w;
         later = omega arith;
         names = λ d h. t .names p hp d (omega (arith, kept-taken (called p) q (t .well p hp) l d));
         once = λ d. omega (arith, t .once p hp d, kept-taken (called p) q (t .well p hp) l d);
         epr = λ m h e k. ap (λ (n : ℕ). isAt 1 (purseAt b n) (m .details)) (sym e) ∙ t .clear m h .epr k;
         epv = λ m h e k. ap (λ (n : ℕ). isAt 2 (purseAt b n) (m .details)) (sym e) ∙ t .clear m h .epv k;
+      })
+
+  -- the balance higher, all else as it was
+  put-raised : (p : ℕ) (a : Amount) → p < length (b .purses) → Good p (raised a (purseAt b p)) → Table (withPurse b p (raised a (purseAt b p)))
+  put-raised p a hp w =
+      put-purse b p (raised a (purseAt b p)) hp t
+      (record {
+        well = w;
+        later = omega arith;
+        names = t .names p hp;
+        once = t .once p hp;
+        epr = λ m h e k. ap (λ (n : ℕ). isAt 1 (purseAt b n) (m .details)) (sym e) ∙ t .clear m h .epr k;
+        epv = λ m h e k. ap (λ (n : ℕ). isAt 2 (purseAt b n) (m .details)) (sym e) ∙ t .clear m h .epv k;
+      })
+
+  -- a purse that is not in the table has logged nothing
+  unarchived : (n : ℕ) → length (b .purses) ≤ n → (d : Details) → countD d (archivedBy n (b .archive)) ≡ 0
+  unarchived n hn d =
+      none _ (λ (l : 1 ≤ countD d (archivedBy n (b .archive))).
+      let e : EntryOk b n d = t .entry n d l in
+      ⊎-elim
+      (λ (a : asPayer (called n) (purseAt b n .next) d ≡ true). omega (arith, e .table .payer, as-payer (called n) (purseAt b n .next) d a .0))
+      (λ (a : asPayee (called n) (purseAt b n .next) d ≡ true). omega (arith, e .table .payee, as-payee (called n) (purseAt b n .next) d a .0))
+      (entry-role (called n) (purseAt b n .next) d (e .entry)))
+
+  -- an opened purse at the next free place
+  put-new : (v : ℕ) → length (b .purses) < 32 → v ≤ ceiling (openedAt v) → Table (withNew b v)
+  put-new v few low =
+      let n : ℕ = length (b .purses) in
+      let end : length (b .purses) ≤ n = omega arith in
+      put-list b n (openedAt v) (b .purses ++ (openedAt v ∷ [])) (new-replaced b (openedAt v)) (omega (arith, length-append (b .purses) (openedAt v ∷ []))) t
+      (record {
+        well = well-opened (called n) v low;
+        later = rw (List·getD-eq-default (b .purses) zeroPurse end) (omega arith);
+        names = λ d h. absurd (omega arith);
+        once = λ d. omega (arith, unarchived n (omega arith) d);
+        epr = λ m h e k. refl;
+        epv = λ m h e k. refl;
       })
 
   here-after : (p : ℕ) (q : Purse) → p < length (b .purses) → purseAt (withPurse b p q) p ≡ q
@@ -271,7 +304,7 @@ module _ (b : Bench) (t : Table b) where
       (rw (here-after p (taken q) hp) z)
       room
 
-  pub table-moves : Moves b (λ (c : Bench) (x y : List Details). Table c)
+  pub table-moves : Moves b (λ (c : Bench) (x : Effect). Table c)
   table-moves =
       record {
         stays = t;
@@ -284,13 +317,15 @@ module _ (b : Bench) (t : Table b) where
         stop = put-stopped;
         drop = λ i l. lose-message b i t l;
         collect = keep-collect;
+        issue = put-new;
+        load = λ p a hp z w. put-raised p a hp w;
       }
 
 -- every step of a well-formed bench gives a well-formed bench
 pub keep-step : (b : Bench) (l : List ℕ) → tableOk b ≡ true → tableOk (step b l .bench) ≡ true
 keep-step b l w =
     table-is (step b l .bench)
-    (step-moves b (is-table b w) (λ (c : Bench) (x y : List Details). Table c) (table-moves b (is-table b w)) w l)
+    (step-moves b (is-table b w) (λ (c : Bench) (x : Effect). Table c) (table-moves b (is-table b w)) w l)
 
 pub keep-run : (b : Bench) (ls : List (List ℕ)) → tableOk b ≡ true → tableOk (run b ls) ≡ true
 keep-run b [] w = w

@@ -1,4 +1,4 @@
--- Every event is one of ten moves (a refusal stays, and so does an abort of an idle purse). What holds of each move holds of every step: the
+-- Every event is one of twelve moves (a refusal stays, and so does an abort of an idle purse). What holds of each move holds of every step: the
 -- case analysis of the bench's step, made once.
 -- Assumes nothing.
 use Prim.Native.Nat.{ℕ, _≤_, _<_}
@@ -10,7 +10,7 @@ use lib.ListN.{length, getD}
 use lib.Seq.{set-getD}
 use lib.Dec.{ltb, leb, eqb}
 use native.Mathlib.Omega.{arith}
-use borrow.Author.Tests.{leb-false, ltb-true, eqb-true, eqb-false, ne-eqb, lt-leb, le-leb}
+use borrow.Author.Tests.{leb-false, ltb-true, ltb-false, eqb-true, eqb-false, ne-eqb, lt-leb, le-leb}
 use Rattle.purse.specs.declared.Name.{Name}
 use Rattle.purse.specs.declared.Seq.{Seq}
 use Rattle.purse.specs.declared.Amount.{Amount}
@@ -18,24 +18,24 @@ use Rattle.purse.specs.declared.Details.{Details}
 use Rattle.purse.specs.declared.Message.{Message}
 use Rattle.purse.specs.declared.Purse.{Purse}
 use Rattle.purse.specs.declared.CardAnswer.{CardAnswer}
-use Rattle.purse.specs.Details.{request, value, acknowledge, zeroDetails, zeroMessage, sameDetails, sameMessage}
+use Rattle.purse.specs.Details.{request, value, acknowledge, zeroDetails, zeroMessage, sameDetails, sameMessage, legal}
 use Rattle.purse.specs.Tests.{_⇒_}
-use Rattle.purse.specs.Purse.{epr, epv, zeroPurse, wellFormed}
+use Rattle.purse.specs.Purse.{epr, epv, ceiling, zeroPurse, wellFormed}
 use Rattle.purse.specs.Step as card
-use Rattle.purse.specs.Step.{ownTests, fromDetails, toDetails, refusedBy, begunWith, idleWith, stopped, taken, delivered, received, expected, fromNumber, toNumber, abortNumber, deliverNumber, collectNumber, deliverTo, abortBy, collectBy}
+use Rattle.purse.specs.Step.{ownTests, fromDetails, toDetails, refusedBy, begunWith, idleWith, stopped, taken, delivered, received, expected, fromNumber, toNumber, abortNumber, deliverNumber, collectNumber, deliverTo, abortBy, collectBy, raiseTests, raised, loadNumber, loadBy}
 use Rattle.purse.specs.Lists.{without}
 use Rattle.purse.proofs.Bools.{and-l, which}
-use Rattle.purse.proofs.Steps.{ready-from, ready-to, deliver-passed, deliver-get, expected-status, collect-some}
-use Rattle.purse.proofs.Keep.{keep-from, keep-to, keep-paid, keep-idle, keep-stopped, keep-taken}
+use Rattle.purse.proofs.Steps.{ready-from, ready-to, deliver-passed, deliver-get, expected-status, collect-some, Raises, load-passed}
+use Rattle.purse.proofs.Keep.{keep-from, keep-to, keep-paid, keep-idle, keep-stopped, keep-taken, keep-raised}
 use Rattle.purse.proofs.Rules.{wf-bounds}
 use Rattle.purse.proofs.Count.{times-at}
 use Rattle.rules.specs.declared.Event.{Event}
-use Rattle.rules.specs.declared.Event.the-variants.{Malformed, StartFrom, StartTo, Deliver, Abort, Lose, Collect}
-use Rattle.rules.specs.Bench.{Bench, called, purseAt, messageAt}
+use Rattle.rules.specs.declared.Event.the-variants.{Malformed, StartFrom, StartTo, Deliver, Abort, Lose, Collect, Issue, Load}
+use Rattle.rules.specs.Bench.{Bench, called, openedAt, purseAt, messageAt}
 use Rattle.rules.specs.Table.{tableOk}
-use Rattle.rules.specs.Steps.{Answer, refused, withPurse, withMessages, withArchive, carried, archiving, acting, step, noPurse, noMessage}
+use Rattle.rules.specs.Steps.{Answer, classOk, refused, withPurse, withNew, withMessages, withArchive, carried, archiving, acting, step, noPurse, noMessage}
 use Rattle.rules.specs.Events.{decoded}
-use Rattle.rules.specs.Paid.{delivers, movedBy}
+use Rattle.rules.specs.Paid.{Effect, nothing, delivers, adds, effectOf, effectBy}
 use Rattle.rules.proofs.Facts.{details-equal, message-equal, message-same, countM, MessageOk, Table}
 use Rattle.rules.proofs.Ladders.{first-high}
 
@@ -83,22 +83,35 @@ Sent b m ms = (ms ≡ b .messages) ⊎ ((ms ≡ b .messages ++ (m ∷ [])) × (l
 abbrev pub Good : ℕ → Purse → Type 0
 Good p q = wellFormed (called p) q ≡ true
 
--- what holds of each move: Q is a fact of the bench after it, of what it paid and of what arrived by it
-pub record Moves (b : Bench) (Q : Bench → List Details → List Details → Type 0) : Type 0 where
-  pub stays : Q b [] []
-  pub from : (p : ℕ) (o : Name) (s : Seq) (a : Amount) → Started b p (o .0) → Good p (begunFrom b p o s a) → Q (withPurse b p (begunFrom b p o s a)) [] []
-  pub to : (p : ℕ) (o : Name) (s : Seq) (a : Amount) → Started b p (o .0) → Good p (begunTo b p o s a) → (ms : List Message) → Sent b (messageOf request (toOf b p o s a)) ms → Q (withMessages (withPurse b p (begunTo b p o s a)) ms) [] []
-  pub pay : (p : ℕ) → Taking b p request → Good p (payerAfter b p) → (ms : List Message) → Sent b (messageOf value (purseAt b p .details)) ms → Q (withMessages (withPurse b p (payerAfter b p)) ms) (purseAt b p .details ∷ []) []
-  pub get : (p : ℕ) → Taking b p value → Good p (payeeAfter b p) → (ms : List Message) → Sent b (messageOf acknowledge (purseAt b p .details)) ms → Q (withMessages (withPurse b p (payeeAfter b p)) ms) [] (purseAt b p .details ∷ [])
-  pub settle : (p : ℕ) → Taking b p acknowledge → Good p (idleAfter b p) → Q (withPurse b p (idleAfter b p)) [] []
-  pub quit : (p : ℕ) → p < length (b .purses) → purseAt b p .status ≡ 1 → Good p (idleAfter b p) → Q (withPurse b p (idleAfter b p)) [] []
-  pub stop : (p : ℕ) → p < length (b .purses) → 2 ≤ purseAt b p .status → Good p (stopped (purseAt b p)) → Q (withPurse b p (stopped (purseAt b p))) [] []
-  pub drop : (i : ℕ) → i < length (b .messages) → Q (withMessages b (without i (b .messages))) [] []
-  pub collect : (p : ℕ) → p < length (b .purses) → 0 < purseAt b p .logged → Good p (taken (purseAt b p)) → length (b .archive) < 256 → Q (withArchive (withPurse b p (taken (purseAt b p))) (b .archive ++ (record { by = called p; details = getD (purseAt b p .log) 0 zeroDetails } ∷ []))) [] []
+-- a payment paid, a payment that arrived
+abbrev pub pays : Details → Effect
+pays d = record { paid = d ∷ []; arrived = []; added = [] }
+
+abbrev pub gets : Details → Effect
+gets d = record { paid = []; arrived = d ∷ []; added = [] }
+
+-- what holds of each move: Q is a fact of the bench after it and of what it moved
+pub record Moves (b : Bench) (Q : Bench → Effect → Type 0) : Type 0 where
+  pub stays : Q b nothing
+  pub from : (p : ℕ) (o : Name) (s : Seq) (a : Amount) → Started b p (o .0) → Good p (begunFrom b p o s a) → Q (withPurse b p (begunFrom b p o s a)) nothing
+  pub to : (p : ℕ) (o : Name) (s : Seq) (a : Amount) → Started b p (o .0) → Good p (begunTo b p o s a) → (ms : List Message) → Sent b (messageOf request (toOf b p o s a)) ms → Q (withMessages (withPurse b p (begunTo b p o s a)) ms) nothing
+  pub pay : (p : ℕ) → Taking b p request → Good p (payerAfter b p) → (ms : List Message) → Sent b (messageOf value (purseAt b p .details)) ms → Q (withMessages (withPurse b p (payerAfter b p)) ms) (pays (purseAt b p .details))
+  pub get : (p : ℕ) → Taking b p value → Good p (payeeAfter b p) → (ms : List Message) → Sent b (messageOf acknowledge (purseAt b p .details)) ms → Q (withMessages (withPurse b p (payeeAfter b p)) ms) (gets (purseAt b p .details))
+  pub settle : (p : ℕ) → Taking b p acknowledge → Good p (idleAfter b p) → Q (withPurse b p (idleAfter b p)) nothing
+  pub quit : (p : ℕ) → p < length (b .purses) → purseAt b p .status ≡ 1 → Good p (idleAfter b p) → Q (withPurse b p (idleAfter b p)) nothing
+  pub stop : (p : ℕ) → p < length (b .purses) → 2 ≤ purseAt b p .status → Good p (stopped (purseAt b p)) → Q (withPurse b p (stopped (purseAt b p))) nothing
+  pub drop : (i : ℕ) → i < length (b .messages) → Q (withMessages b (without i (b .messages))) nothing
+  pub collect : (p : ℕ) → p < length (b .purses) → 0 < purseAt b p .logged → Good p (taken (purseAt b p)) → length (b .archive) < 256 → Q (withArchive (withPurse b p (taken (purseAt b p))) (b .archive ++ (record { by = called p; details = getD (purseAt b p .log) 0 zeroDetails } ∷ []))) nothing
+  pub issue : (v : ℕ) → length (b .purses) < 32 → v ≤ ceiling (openedAt v) → Q (withNew b v) (adds (length (b .purses)) v)
+  pub load : (p : ℕ) (a : Amount) → p < length (b .purses) → purseAt b p .status ≡ 0 → Good p (raised a (purseAt b p)) → Q (withPurse b p (raised a (purseAt b p))) (adds p (a .0))
 
 deliver-high : (q : Purse) (own : Name) (m : Message) → (deliverNumber q own m ≡ 0 → ⊥) → 2 ≤ deliverNumber q own m
 unfolding deliverNumber
 deliver-high q own m h = first-high (ownTests q own ++ ((not (expected q m) ⇒ 13) ∷ [])) refl h
+
+load-high : (q : Purse) (own : Name) (a : Amount) → (loadNumber q own a ≡ 0 → ⊥) → 2 ≤ loadNumber q own a
+unfolding loadNumber
+load-high q own a h = first-high (ownTests q own ++ ((not (legal a) ⇒ 7) ∷ raiseTests q a)) refl h
 
 module _ (b : Bench) where
   -- by the card's number
@@ -120,27 +133,27 @@ module _ (b : Bench) where
   by-test T true n a f g = f refl
   by-test T false n a f g = g refl
 
-module _ (b : Bench) (t : Table b) (Q : Bench → List Details → List Details → Type 0) (v : Moves b Q) where
-  -- an event that delivers nothing
-  plain : (x y : Bool) (c : Bench) → Q c [] [] → Q c (cond x [] []) (cond y [] [])
-  plain true true c h = h
-  plain true false c h = h
-  plain false true c h = h
-  plain false false c h = h
+module _ (b : Bench) (t : Table b) (Q : Bench → Effect → Type 0) (v : Moves b Q) where
+  -- an answer to an event that moves x where it is done
+  abbrev By : Effect → Answer → Type 0
+  By x a = Q (a .bench) (cond (leb (a .answer) 1) x nothing)
 
+  -- an event that moves nothing
   abbrev Quiet : Answer → Type 0
-  Quiet a = Q (a .bench) (cond (leb (a .answer) 1) [] []) (cond (leb (a .answer) 1) [] [])
+  Quiet = By nothing
 
-  abbrev Loud : Message → Answer → Type 0
-  Loud m a =
-      Q (a .bench) (cond (leb (a .answer) 1) (cond (eqb (m .kind) 1) (m .details ∷ []) []) [])
-      (cond (leb (a .answer) 1) (cond (eqb (m .kind) 2) (m .details ∷ []) []) [])
+  plain : (x : Bool) (c : Bench) → Q c nothing → Q c (cond x nothing nothing)
+  plain true c h = h
+  plain false c h = h
 
-  quiet : (a : Answer) → Q (a .bench) [] [] → Quiet a
-  quiet a h = plain (leb (a .answer) 1) (leb (a .answer) 1) (a .bench) h
+  quiet : (a : Answer) → Q (a .bench) nothing → Quiet a
+  quiet a h = plain (leb (a .answer) 1) (a .bench) h
 
   stayed : (n : ℕ) → Quiet (refused n b)
   stayed n = quiet (refused n b) (v .stays)
+
+  refusal : (x : Effect) (n : ℕ) → 2 ≤ n → By x (refused n b)
+  refusal x n h = rw (lt-leb n 1 h) (v .stays)
 
   from-moves : (p : ℕ) (o : Name) (s : Seq) (a : Amount) → p < length (b .purses) → o .0 < length (b .purses) → Quiet (carried b p (card.startFrom (purseAt b p) (called p) o s a))
   unfolding card.startFrom
@@ -168,10 +181,10 @@ module _ (b : Bench) (t : Table b) (Q : Bench → List Details → List Details 
       let f : m ≡ messageOf k (purseAt b p .details) = λ i. record { kind = e i; details = sym d i } in
       (record { here = hp; status = expected-status (purseAt b p) m k x e; stands = rw f at hm }, d)
 
-  deliver-moves : (p : ℕ) (m : Message) → p < length (b .purses) → 1 ≤ countM m (b .messages) → Loud m (carried b p (deliverTo (purseAt b p) (called p) m))
+  deliver-moves : (p : ℕ) (m : Message) → p < length (b .purses) → 1 ≤ countM m (b .messages) → By (delivers m) (carried b p (deliverTo (purseAt b p) (called p) m))
   unfolding deliverTo
   deliver-moves p m hp hm =
-      by-card b (Loud m) p (deliverNumber (purseAt b p) (called p) m) (delivered (purseAt b p) (m .kind))
+      by-card b (By (delivers m)) p (deliverNumber (purseAt b p) (called p) m) (delivered (purseAt b p) (m .kind))
       (λ (z : deliverNumber (purseAt b p) (called p) m ≡ 0).
       let w : wellFormed (called p) (purseAt b p) ≡ true = t .well p hp in
       ⊎-elim
@@ -179,7 +192,7 @@ module _ (b : Bench) (t : Table b) (Q : Bench → List Details → List Details 
       let k : m .kind ≡ 1 = eqb-true _ _ e in
       let g : Taking b p request × (purseAt b p .details ≡ m .details) = taken-message p m hp hm z 1 k in
       rw (e, ne-eqb (m .kind) 2 (λ (y : m .kind ≡ 2). omega arith))
-      (by-room b (λ (a : Answer). Q (a .bench) (cond (leb (a .answer) 1) (m .details ∷ []) []) (cond (leb (a .answer) 1) [] [])) p (payerAfter b p) (messageOf value (purseAt b p .details)) (λ ms n l s.
+      (by-room b (By (pays (m .details))) p (payerAfter b p) (messageOf value (purseAt b p .details)) (λ ms n l s.
       rw (le-leb n 1 l, ← (g .1)) (v .pay p (g .0) (keep-paid (purseAt b p) (called p) (g .0 .status) w) ms s))))
       (λ (e : eqb (m .kind) 1 ≡ false).
       ⊎-elim
@@ -187,7 +200,7 @@ module _ (b : Bench) (t : Table b) (Q : Bench → List Details → List Details 
       let k : m .kind ≡ 2 = eqb-true _ _ f in
       let g : Taking b p value × (purseAt b p .details ≡ m .details) = taken-message p m hp hm z 2 k in
       rw (e, f)
-      (by-room b (λ (a : Answer). Q (a .bench) (cond (leb (a .answer) 1) [] []) (cond (leb (a .answer) 1) (m .details ∷ []) [])) p (payeeAfter b p) (messageOf acknowledge (purseAt b p .details)) (λ ms n l s.
+      (by-room b (By (gets (m .details))) p (payeeAfter b p) (messageOf acknowledge (purseAt b p .details)) (λ ms n l s.
       rw (le-leb n 1 l, ← (g .1)) (v .get p (g .0) (keep-idle (purseAt b p) (called p) (received (purseAt b p) .purse .balance) (deliver-get (purseAt b p) (called p) m z k) w) ms s))))
       (λ (f : eqb (m .kind) 2 ≡ false).
       let o : MessageOk b m = t .message m hm in
@@ -198,7 +211,7 @@ module _ (b : Bench) (t : Table b) (Q : Bench → List Details → List Details 
       rw (e, f) (v .settle p (g .0) (keep-idle (purseAt b p) (called p) (purseAt b p .balance) (wf-bounds (called p) (purseAt b p) w .balance) w)))
       (which (eqb (m .kind) 2)))
       (which (eqb (m .kind) 1)))
-      (λ z. rw (lt-leb (deliverNumber (purseAt b p) (called p) m) 1 (deliver-high (purseAt b p) (called p) m z)) (v .stays))
+      (λ z. refusal (delivers m) (deliverNumber (purseAt b p) (called p) m) (deliver-high (purseAt b p) (called p) m z))
 
   abort-moves : (p : ℕ) → p < length (b .purses) → Quiet (carried b p (abortBy (purseAt b p) (called p)))
   unfolding abortBy
@@ -236,7 +249,16 @@ module _ (b : Bench) (t : Table b) (Q : Bench → List Details → List Details 
       (λ (e : eqb (collectNumber (purseAt b p) (called p)) 0 ≡ false). rw (e, e) (stayed (collectNumber (purseAt b p) (called p))))
       (which (eqb (collectNumber (purseAt b p) (called p)) 0))
 
-  pub event-moves : (e : Event) → Q (acting b e .bench) (cond (leb (acting b e .answer) 1) (delivers 1 b e) []) (cond (leb (acting b e .answer) 1) (delivers 2 b e) [])
+  load-moves : (p : ℕ) (a : Amount) → p < length (b .purses) → By (adds p (a .0)) (carried b p (loadBy (purseAt b p) (called p) a))
+  unfolding loadBy
+  load-moves p a hp =
+      by-card b (By (adds p (a .0))) p (loadNumber (purseAt b p) (called p) a) _
+      (λ z.
+      let r : Raises (purseAt b p) a = load-passed (purseAt b p) (called p) a z in
+      v .load p a hp (r .idle) (keep-raised (purseAt b p) (called p) a r (t .well p hp)))
+      (λ z. refusal (adds p (a .0)) (loadNumber (purseAt b p) (called p) a) (load-high (purseAt b p) (called p) a z))
+
+  pub event-moves : (e : Event) → By (effectOf b e) (acting b e)
   unfolding acting
   event-moves Malformed = v .stays
   event-moves (StartFrom p o s a) =
@@ -246,14 +268,21 @@ module _ (b : Bench) (t : Table b) (Q : Bench → List Details → List Details 
       by-test b Quiet (noPurse b (p .0)) 4 _ (λ no. v .stays) (λ hp.
       by-test b Quiet (noPurse b (o .0)) 6 _ (λ no. v .stays) (λ ho. to-moves (p .0) o s a (leb-false _ _ hp) (leb-false _ _ ho)))
   event-moves (Deliver p i) =
-      by-test b (Loud (messageAt b i)) (noPurse b (p .0)) 4 _ (λ no. v .stays) (λ hp.
-      by-test b (Loud (messageAt b i)) (noMessage b i) 5 _ (λ no. v .stays) (λ hi.
+      by-test b (By (delivers (messageAt b i))) (noPurse b (p .0)) 4 _ (λ no. v .stays) (λ hp.
+      by-test b (By (delivers (messageAt b i))) (noMessage b i) 5 _ (λ no. v .stays) (λ hi.
       deliver-moves (p .0) (messageAt b i) (leb-false _ _ hp) (times-at sameMessage message-equal message-same (b .messages) i zeroMessage (leb-false _ _ hi))))
   event-moves (Abort p) = by-test b Quiet (noPurse b (p .0)) 4 _ (λ no. v .stays) (λ hp. abort-moves (p .0) (leb-false _ _ hp))
   event-moves (Lose i) = by-test b Quiet (noMessage b i) 5 _ (λ no. v .stays) (λ hi. v .drop i (leb-false _ _ hi))
   event-moves (Collect p) = by-test b Quiet (noPurse b (p .0)) 4 _ (λ no. v .stays) (λ hp. collect-moves (p .0) (leb-false _ _ hp))
 
+  event-moves (Issue class w) =
+      by-test b (By (adds (length (b .purses)) (w .0))) (leb 32 (length (b .purses))) 24 _ (λ no. v .stays) (λ few.
+      by-test b (By (adds (length (b .purses)) (w .0))) (not (classOk class)) 22 _ (λ no. v .stays) (λ ok.
+      by-test b (By (adds (length (b .purses)) (w .0))) (ltb (ceiling (openedAt (w .0))) (w .0)) 21 _ (λ no. v .stays) (λ low.
+      v .issue (w .0) (leb-false _ _ few) (ltb-false _ _ low))))
+  event-moves (Load p a) = by-test b (By (adds (p .0) (a .0))) (noPurse b (p .0)) 4 _ (λ no. v .stays) (λ hp. load-moves (p .0) a (leb-false _ _ hp))
+
   -- every step of a well-formed bench is one of the moves
-  pub step-moves : tableOk b ≡ true → (l : List ℕ) → Q (step b l .bench) (movedBy 1 b l) (movedBy 2 b l)
-  unfolding step movedBy
+  pub step-moves : tableOk b ≡ true → (l : List ℕ) → Q (step b l .bench) (effectBy b l)
+  unfolding step effectBy
   step-moves w l = rw w (event-moves (decoded l))

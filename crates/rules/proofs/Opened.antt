@@ -7,20 +7,19 @@ use mathlib.Core.List.{List, [], _∷_, map}
 use lib.ListN.{length, getD, length-map}
 use lib.Dec.{leb}
 use native.Mathlib.Omega.{arith}
-use borrow.Author.Tests.{leb-true, le-leb, not-false}
-use Rattle.purse.specs.declared.Name.{Name}
+use borrow.Author.Tests.{leb-true, not-false}
 use Rattle.purse.specs.declared.Details.{Details}
-use Rattle.purse.specs.Details.{sameDetails}
-use Rattle.purse.specs.Purse.{ceiling, idleOk, placeOk, logOk, wellFormed}
+use Rattle.purse.specs.Purse.{ceiling}
 use Rattle.purse.specs.Lists.{all}
 use Rattle.purse.proofs.Lists.{all-at}
 use Rattle.purse.proofs.Bools.{and-l, and-r}
 use Rattle.purse.proofs.Tests.{passed}
-use Rattle.rules.specs.Bench.{called, purseAt, running, kept}
+use Rattle.rules.specs.Bench.{called, openedAt, purseAt, running, kept}
 use Rattle.rules.specs.Table.{tableOk}
-use Rattle.rules.specs.Run.{opened, openedAt, openingNumber, run}
+use Rattle.rules.specs.Run.{opened, openingNumber, run}
 use Rattle.rules.specs.Steps.{step}
 use Rattle.rules.proofs.Facts.{countD, Table, table-is}
+use Rattle.rules.proofs.Purses.{well-opened}
 use Rattle.rules.proofs.Orders.{never-two}
 use Rattle.rules.proofs.Kept.{keep-run}
 
@@ -46,10 +45,6 @@ pub opened-at : (bs : List ℕ) (p : ℕ) → p < length bs → purseAt (opened 
 opened-at [] p l = absurd (omega arith)
 opened-at (x ∷ bs) zero l = refl
 opened-at (x ∷ bs) (suc p) l = opened-at bs p (omega arith)
-
-pub well-opened : (own : Name) (v : ℕ) → v ≤ ceiling (openedAt v) → wellFormed own (openedAt v) ≡ true
-unfolding wellFormed idleOk logOk placeOk sameDetails
-well-opened own v h = rw (le-leb v (ceiling (openedAt v)) h)
 
 pub opened-table : (bs : List ℕ) → openingNumber bs ≡ 0 → Table (opened bs)
 opened-table bs e =

@@ -17,17 +17,18 @@ use Rattle.purse.specs.declared.Message.{Message}
 use Rattle.purse.specs.Lists.{all}
 use Rattle.purse.specs.Tests.{Test, _⇒_, first}
 use Rattle.purse.specs.Details.{acknowledge, zeroMessage, sameMessage}
+use Rattle.purse.specs.Purse.{ceiling}
 use Rattle.purse.specs.Step as card
-use Rattle.purse.specs.Step.{fromNumber, toNumber, deliverNumber, abortNumber, collectNumber, delivered, deliverTo, abortBy, collectBy}
+use Rattle.purse.specs.Step.{fromNumber, toNumber, deliverNumber, abortNumber, collectNumber, delivered, deliverTo, abortBy, collectBy, loadNumber, loadBy}
 use Rattle.purse.proofs.Bools.{which}
 use Rattle.purse.proofs.Count.{times-at}
 use Rattle.rules.specs.declared.Event.{Event}
-use Rattle.rules.specs.declared.Event.the-variants.{Malformed, StartFrom, StartTo, Deliver, Abort, Lose, Collect}
-use Rattle.rules.specs.Bench.{Bench, purseAt, messageAt}
+use Rattle.rules.specs.declared.Event.the-variants.{Malformed, StartFrom, StartTo, Deliver, Abort, Lose, Collect, Issue, Load}
+use Rattle.rules.specs.Bench.{Bench, openedAt, purseAt, messageAt}
 use Rattle.rules.specs.Table.{tableOk}
 use Rattle.rules.specs.Events.{decoded}
-use Rattle.rules.specs.Steps.{Answer, carried, archiving, acting, step, noPurse, noMessage}
-use Rattle.rules.specs.Orders.{full, fromTests, toTests, deliverTests, testsOf, order}
+use Rattle.rules.specs.Steps.{Answer, classOk, carried, archiving, acting, step, noPurse, noMessage}
+use Rattle.rules.specs.Orders.{full, fromTests, toTests, deliverTests, loadTests, testsOf, order}
 use Rattle.rules.proofs.Ladders.{first-append, first-not}
 use Rattle.rules.proofs.Facts.{message-equal, message-same, MessageOk, Table, is-table}
 use Rattle.rules.proofs.Moves.{by-card, by-test}
@@ -63,6 +64,10 @@ module _ (b : Bench) (t : Table b) where
   deliver-number : (p : Name) (i : ℕ) → p .0 < length (b .purses) → i < length (b .messages) → deliverNumber (purseAt b (p .0)) p (messageAt b i) ≡ first (deliverTests b p i)
   unfolding deliverNumber
   deliver-number p i hp hi = rw (t .well (p .0) hp, low (p .0) hp, there (p .0) hp, lt-leb (length (b .messages)) i hi)
+
+  load-number : (p : Name) (a : Amount) → p .0 < length (b .purses) → loadNumber (purseAt b (p .0)) p a ≡ first (loadTests b p a)
+  unfolding loadNumber
+  load-number p a hp = rw (t .well (p .0) hp, low (p .0) hp, there (p .0) hp)
 
   from-order : (p o : Name) (s : Seq) (a : Amount) → p .0 < length (b .purses) → o .0 < length (b .purses) → carried b (p .0) (card.startFrom (purseAt b (p .0)) p o s a) .answer ≡ first (testsOf b (StartFrom p o s a))
   unfolding card.startFrom
@@ -125,6 +130,12 @@ module _ (b : Bench) (t : Table b) where
       (which (leb 256 (length (b .archive))))))
       (which (eqb (purseAt b (p .0) .logged) 0)))
 
+  load-order : (p : Name) (a : Amount) → p .0 < length (b .purses) → carried b (p .0) (loadBy (purseAt b (p .0)) p a) .answer ≡ first (testsOf b (Load p a))
+  unfolding loadBy
+  load-order p a hp =
+      by-card b (λ (x : Answer). x .answer ≡ loadNumber (purseAt b (p .0)) p a) (p .0) (loadNumber (purseAt b (p .0)) p a) _ (λ z. sym z) (λ z. refl)
+      ∙ load-number p a hp
+
   -- a well-formed bench, by the kind of event
   pub event-order : (e : Event) → acting b e .answer ≡ first (testsOf b e)
   unfolding acting
@@ -147,6 +158,12 @@ module _ (b : Bench) (t : Table b) where
       by-test b (λ (x : Answer). x .answer ≡ first (testsOf b (Lose i))) (noMessage b i) 5 _ (λ e. rw e) (λ hi. rw hi)
   event-order (Collect p) =
       by-test b (λ (x : Answer). x .answer ≡ first (testsOf b (Collect p))) (noPurse b (p .0)) 4 _ (λ e. rw e) (λ hp. collect-order p (leb-false _ _ hp))
+  event-order (Issue class v) =
+      by-test b (λ (x : Answer). x .answer ≡ first (testsOf b (Issue class v))) (leb 32 (length (b .purses))) 24 _ (λ e. rw e) (λ e.
+      by-test b (λ (x : Answer). x .answer ≡ first (testsOf b (Issue class v))) (not (classOk class)) 22 _ (λ f. rw (e, f)) (λ f.
+      by-test b (λ (x : Answer). x .answer ≡ first (testsOf b (Issue class v))) (ltb (ceiling (openedAt (v .0))) (v .0)) 21 _ (λ g. rw (e, f, g)) (λ g. rw (e, f, g))))
+  event-order (Load p a) =
+      by-test b (λ (x : Answer). x .answer ≡ first (testsOf b (Load p a))) (noPurse b (p .0)) 4 _ (λ e. rw e) (λ hp. load-order p a (leb-false _ _ hp))
 
 -- every bench, every event: the answer is the first that applies, in document 01's order
 pub answer-order : (b : Bench) (l : List ℕ) → step b l .answer ≡ first (order b l)
@@ -166,6 +183,8 @@ not-two b (Deliver p i) = refl
 not-two b (Abort p) = refl
 not-two b (Lose i) = refl
 not-two b (Collect p) = refl
+not-two b (Issue class v) = refl
+not-two b (Load p a) = refl
 
 -- so a well-formed bench never answers 2
 pub never-two : (b : Bench) (l : List ℕ) → tableOk b ≡ true → step b l .answer ≡ 2 → ⊥

@@ -10,12 +10,12 @@ use lib.Seq.{take-suc-set, drop-cons, take-append-le}
 use lib.Dec.{leb, eqb}
 use native.Mathlib.Numerals.{add-one}
 use native.Mathlib.Omega.{arith}
-use borrow.Author.Tests.{eqb-true, ne-eqb}
+use borrow.Author.Tests.{eqb-true, ne-eqb, le-leb}
 use Rattle.purse.specs.declared.Name.{Name}
 use Rattle.purse.specs.declared.Details.{Details}
 use Rattle.purse.specs.declared.Purse.{Purse}
 use Rattle.purse.specs.Details.{zeroDetails, sameDetails, named, asPayer, asPayee, entryOk}
-use Rattle.purse.specs.Purse.{ceiling, paysOk, getsOk, busyOk, wellFormed}
+use Rattle.purse.specs.Purse.{ceiling, paysOk, getsOk, idleOk, busyOk, placeOk, logOk, wellFormed}
 use Rattle.purse.specs.Step.{stopped, taken}
 use Rattle.purse.proofs.Bools.{and-l, and-r, no-and, or-l, or-r, either}
 use Rattle.purse.proofs.Rules.{busy, busy-parts, room, wf-log, wf-bounds, Bounds}
@@ -23,7 +23,7 @@ use Rattle.purse.proofs.Payments.{as-payer, as-payee, is-named}
 use Rattle.purse.proofs.Log.{used-at, log-long}
 use Rattle.purse.proofs.Lists.{all-take}
 use Rattle.purse.proofs.Count.{bit, times-append, is-all}
-use Rattle.rules.specs.Bench.{kept}
+use Rattle.rules.specs.Bench.{openedAt, kept}
 use Rattle.rules.proofs.Facts.{details-equal, details-same, countD}
 
 pub record OwnPayer (own : Name) (p : Purse) : Type 0 where
@@ -111,3 +111,8 @@ module _ (own : Name) (p : Purse) (w : wellFormed own p ≡ true) where
       ap (λ (k : ℕ). countD d (take k (p .log))) n
       ∙ (ap (λ (l : List Details). countD d (take (suc (p .logged - 1)) l)) c
       ∙ ap (λ (l : List Details). bit (sameDetails d (getD (p .log) 0 zeroDetails)) + countD d l) (sym t))
+
+-- an opened purse is well formed
+pub well-opened : (own : Name) (v : ℕ) → v ≤ ceiling (openedAt v) → wellFormed own (openedAt v) ≡ true
+unfolding wellFormed idleOk logOk placeOk sameDetails
+well-opened own v h = rw (le-leb v (ceiling (openedAt v)) h)

@@ -1,11 +1,11 @@
 -- What keeps the table's rules: one purse replaced, a message or an entry put at the end, a message taken out.
 -- Assumes nothing.
-use Prim.Native.Nat.{ℕ, suc, _+_, _≤_, _<_}
+use Prim.Native.Nat.{ℕ, zero, suc, _+_, _≤_, _<_}
 use mathlib.Core.Path.{_≡_, refl, _∙_, sym, ap, subst₂}
 use mathlib.Core.Bool.{true, false, cond}
 use mathlib.Core.Logic.{inl, inr, ⊎-elim}
 use mathlib.Core.List.{List, [], _∷_, _++_}
-use lib.ListN.{length, take, drop, set, length-set, length-append, length-take, length-drop}
+use lib.ListN.{length, getD, take, drop, set, length-set, length-append, length-take, length-drop}
 use lib.Seq.{getD-set-same, getD-set-other}
 use lib.Dec.{eqb}
 use native.Mathlib.Omega.{arith}
@@ -24,25 +24,70 @@ use Rattle.rules.specs.Bench.{Bench, called, purseAt, running, kept, arc
 use Rattle.rules.specs.Steps.{withPurse, withMessages, withArchive}
 use Rattle.rules.proofs.Facts.{details-equal, message-equal, countD, countM, InTable, MessageOk, ClearOk, EntryOk, Table}
 
--- a purse of the table after purse p was replaced: what relates old and new there, and each other to itself, relates all
-pub put-cases : (b : Bench) (p : ℕ) (q : Purse) → p < length (b .purses) → (k : ℕ) (T : Purse → Purse → Type 0) → (k ≡ p → T (purseAt b p) q) → ((k ≡ p → ⊥) → (r : Purse) → T r r) → T (purseAt b k) (purseAt (withPurse b p q) k)
-put-cases b p q here k T f g =
+module _ {A : Type 0} where
+  -- a list with one more at its end
+  getD-last : (l : List A) (q z : A) → getD (l ++ (q ∷ [])) (length l) z ≡ q
+  getD-last [] q z = refl
+  getD-last (x ∷ l) q z = getD-last l q z
+
+  getD-before : (l : List A) (q z : A) (k : ℕ) → (k ≡ length l → ⊥) → getD (l ++ (q ∷ [])) k z ≡ getD l k z
+  getD-before [] q z zero n = absurd (n refl)
+  getD-before [] q z (suc k) n = refl
+  getD-before (x ∷ l) q z zero n = refl
+  getD-before (x ∷ l) q z (suc k) n = getD-before l q z k (λ (e : k ≡ length l). n (ap suc e))
+
+-- the purses ps are those of b but for place p, an old one or the next free one, where q stands
+pub record Replaced (b : Bench) (p : ℕ) (q : Purse) (ps : List Purse) : Type 0 where
+  pub here : getD ps p zeroPurse ≡ q
+  pub other : (k : ℕ) → (k ≡ p → ⊥) → getD ps k zeroPurse ≡ purseAt b k
+  pub more : length (b .purses) ≤ length ps
+  pub only : (k : ℕ) → k < length ps → (k ≡ p → ⊥) → k < length (b .purses)
+
+pub put-replaced : (b : Bench) (p : ℕ) (q : Purse) → p < length (b .purses) → Replaced b p q (set (b .purses) p q)
+put-replaced b p q here =
+    let long : length (set (b .purses) p q) ≡ length (b .purses) = length-set (b .purses) p q in
+    record {
+      here = getD-set-same (b .purses) p q zeroPurse here;
+      other = λ k e. getD-set-other (b .purses) p k q zeroPurse e;
+      more = omega arith;
+      only = λ k l e. omega arith;
+    }
+
+pub new-replaced : (b : Bench) (q : Purse) → Replaced b (length (b .purses)) q (b .purses ++ (q ∷ []))
+new-replaced b q =
+    let long : length (b .purses ++ (q ∷ [])) ≡ length (b .purses) + 1 = length-append (b .purses) (q ∷ []) in
+    record {
+      here = getD-last (b .purses) q zeroPurse;
+      other = λ k e. getD-before (b .purses) q zeroPurse k e;
+      more = omega arith;
+      only = λ k l e. omega arith;
+    }
+
+abbrev pub withPurses : Bench → List Purse → Bench
+withPurses b ps = record { purses = ps; messages = b .messages; archive = b .archive }
+
+-- a purse of the table after one was replaced: what relates old and new there, and each other to itself, relates all
+pub replace-cases : (b : Bench) (p : ℕ) (q : Purse) (ps : List Purse) → Replaced b p q ps → (k : ℕ) (T : Purse → Purse → Type 0) → (k ≡ p → T (purseAt b p) q) → ((k ≡ p → ⊥) → (r : Purse) → T r r) → T (purseAt b k) (getD ps k zeroPurse)
+replace-cases b p q ps c k T f g =
     ⊎-elim
     (λ (a : eqb k p ≡ true).
     let e : k ≡ p = eqb-true k p a in
-    subst₂ T (ap (purseAt b) (sym e)) (sym (ap (purseAt (withPurse b p q)) e ∙ getD-set-same (b .purses) p q zeroPurse here)) (f e))
+    subst₂ T (ap (purseAt b) (sym e)) (sym (ap (λ (n : ℕ). getD ps n zeroPurse) e ∙ c .here)) (f e))
     (λ (a : eqb k p ≡ false).
     let e : (k ≡ p → ⊥) = eqb-false k p a in
-    rw (getD-set-other (b .purses) p k q zeroPurse e) (g e (purseAt b k)))
+    rw (c .other k e) (g e (purseAt b k)))
     (which (eqb k p))
 
--- the table has the same purses, and no number falls back
+pub put-cases : (b : Bench) (p : ℕ) (q : Purse) → p < length (b .purses) → (k : ℕ) (T : Purse → Purse → Type 0) → (k ≡ p → T (purseAt b p) q) → ((k ≡ p → ⊥) → (r : Purse) → T r r) → T (purseAt b k) (purseAt (withPurse b p q) k)
+put-cases b p q here k T f g = replace-cases b p q (set (b .purses) p q) (put-replaced b p q here) k T f g
+
+-- the table has the same purses or more, and no number falls back
 pub record Grown (b c : Bench) : Type 0 where
-  pub same : length (c .purses) ≡ length (b .purses)
+  pub more : length (b .purses) ≤ length (c .purses)
   pub next : (k : ℕ) → purseAt b k .next .0 ≤ purseAt c k .next .0
 
 pub in-later : {b c : Bench} {d : Details} → Grown b c → InTable b d → InTable c d
-in-later g t = record { payer = omega (arith, g .same, t .payer); payee = omega (arith, g .same, t .payee) }
+in-later g t = record { payer = omega (arith, g .more, t .payer); payee = omega (arith, g .more, t .payee) }
 
 pub message-later : {b c : Bench} {m : Message} → Grown b c → MessageOk b m → MessageOk c m
 message-later {b} {c} {m} g k =
@@ -69,7 +114,6 @@ entry-grown {b} {c} {n} {d} g k =
 
 -- purse p replaced by q
 pub record PutOk (b : Bench) (p : ℕ) (q : Purse) : Type 0 where
-  pub here : p < length (b .purses)
   pub well : wellFormed (called p) q ≡ true
   pub later : purseAt b p .next .0 ≤ q .next .0
   pub names : (d : Details) → 1 ≤ countD d (running q) + countD d (kept q) → InTable b d
@@ -77,55 +121,61 @@ pub record PutOk (b : Bench) (p : ℕ) (q : Purse) : Type 0 where
   pub epr : (m : Message) → 1 ≤ countM m (b .messages) → m .details .payer .0 ≡ p → 2 ≤ m .kind → isAt 1 q (m .details) ≡ false
   pub epv : (m : Message) → 1 ≤ countM m (b .messages) → m .details .payee .0 ≡ p → m .kind ≡ 3 → isAt 2 q (m .details) ≡ false
 
-pub grown-put : (b : Bench) (p : ℕ) (q : Purse) → p < length (b .purses) → purseAt b p .next .0 ≤ q .next .0 → Grown b (withPurse b p q)
-grown-put b p q here later =
+pub grown-list : (b : Bench) (p : ℕ) (q : Purse) (ps : List Purse) → Replaced b p q ps → purseAt b p .next .0 ≤ q .next .0 → Grown b (withPurses b ps)
+grown-list b p q ps r later =
     record {
-      same = length-set (b .purses) p q;
-      next = λ (k : ℕ). put-cases b p q here k (λ (o n : Purse). o .next .0 ≤ n .next .0) (λ e. later) (λ e r. omega arith);
+      more = r .more;
+      next = λ (k : ℕ). replace-cases b p q ps r k (λ (o n : Purse). o .next .0 ≤ n .next .0) (λ e. later) (λ e r. omega arith);
     }
 
-pub put-purse : (b : Bench) (p : ℕ) (q : Purse) → Table b → PutOk b p q → Table (withPurse b p q)
-put-purse b p q t k =
-    let c : Bench = withPurse b p q in
-    let g : Grown b c = grown-put b p q (k .here) (k .later) in
-    let long : length (set (b .purses) p q) ≡ length (b .purses) = length-set (b .purses) p q in
+pub grown-put : (b : Bench) (p : ℕ) (q : Purse) → p < length (b .purses) → purseAt b p .next .0 ≤ q .next .0 → Grown b (withPurse b p q)
+grown-put b p q here later = grown-list b p q (set (b .purses) p q) (put-replaced b p q here) later
+
+pub put-list : (b : Bench) (p : ℕ) (q : Purse) (ps : List Purse) → Replaced b p q ps → length ps ≤ 32 → Table b → PutOk b p q → Table (withPurses b ps)
+put-list b p q ps rp few t k =
+    let c : Bench = withPurses b ps in
+    let g : Grown b c = grown-list b p q ps rp (k .later) in
     record {
-      some = omega (arith, t .some);
-      few = omega (arith, t .few);
+      some = omega (arith, t .some, rp .more);
+      few = few;
       few-messages = t .few-messages;
       few-entries = t .few-entries;
       well =
-          λ (i : ℕ) (l : i < length (set (b .purses) p q)).
-          put-cases b p q (k .here) i (λ (o n : Purse). wellFormed (called i) o ≡ true → wellFormed (called i) n ≡ true)
-          (λ e w. rw e (k .well)) (λ e r w. w) (t .well i (omega arith));
+          λ (i : ℕ) (l : i < length ps).
+          replace-cases b p q ps rp i (λ (o n : Purse). ((i ≡ p → ⊥) → wellFormed (called i) o ≡ true) → wellFormed (called i) n ≡ true)
+          (λ e w. rw e (k .well)) (λ e r w. w e) (λ e. t .well i (rp .only i l e));
       names =
-          λ (i : ℕ) (l : i < length (set (b .purses) p q)) (d : Details).
-          put-cases b p q (k .here) i
-          (λ (o n : Purse). (1 ≤ countD d (running o) + countD d (kept o) → InTable c d) → 1 ≤ countD d (running n) + countD d (kept n) → InTable c d)
-          (λ e w h. in-later g (k .names d h)) (λ e r w. w)
-          (λ h. in-later g (t .names i (omega arith) d h));
+          λ (i : ℕ) (l : i < length ps) (d : Details).
+          replace-cases b p q ps rp i
+          (λ (o n : Purse). ((i ≡ p → ⊥) → 1 ≤ countD d (running o) + countD d (kept o) → InTable c d) → 1 ≤ countD d (running n) + countD d (kept n) → InTable c d)
+          (λ e w h. in-later g (k .names d h)) (λ e r w. w e)
+          (λ e h. in-later g (t .names i (rp .only i l e) d h));
       message = λ m h. message-later g (t .message m h);
       entry = λ n d h. entry-grown g (t .entry n d h);
       once =
-          λ (i : ℕ) (l : i < length (set (b .purses) p q)) (d : Details).
-          put-cases b p q (k .here) i
-          (λ (o n : Purse). countD d (running o) + (countD d (kept o) + countD d (archivedBy i (b .archive))) ≤ 1 → countD d (running n) + (countD d (kept n) + countD d (archivedBy i (b .archive))) ≤ 1)
-          (λ e w. rw e (k .once d)) (λ e r w. w)
-          (t .once i (omega arith) d);
+          λ (i : ℕ) (l : i < length ps) (d : Details).
+          replace-cases b p q ps rp i
+          (λ (o n : Purse). ((i ≡ p → ⊥) → countD d (running o) + (countD d (kept o) + countD d (archivedBy i (b .archive))) ≤ 1) → countD d (running n) + (countD d (kept n) + countD d (archivedBy i (b .archive))) ≤ 1)
+          (λ e w. rw e (k .once d)) (λ e r w. w e)
+          (λ e. t .once i (rp .only i l e) d);
       alone = t .alone;
       clear =
           λ (m : Message) (h : 1 ≤ countM m (b .messages)).
           record {
             epr =
                 λ (l : 2 ≤ m .kind).
-                put-cases b p q (k .here) (m .details .payer .0) (λ (o n : Purse). isAt 1 o (m .details) ≡ false → isAt 1 n (m .details) ≡ false)
+                replace-cases b p q ps rp (m .details .payer .0) (λ (o n : Purse). isAt 1 o (m .details) ≡ false → isAt 1 n (m .details) ≡ false)
                 (λ e w. k .epr m h e l) (λ e r w. w) (t .clear m h .epr l);
             epv =
                 λ (l : m .kind ≡ 3).
-                put-cases b p q (k .here) (m .details .payee .0) (λ (o n : Purse). isAt 2 o (m .details) ≡ false → isAt 2 n (m .details) ≡ false)
+                replace-cases b p q ps rp (m .details .payee .0) (λ (o n : Purse). isAt 2 o (m .details) ≡ false → isAt 2 n (m .details) ≡ false)
                 (λ e w. k .epv m h e l) (λ e r w. w) (t .clear m h .epv l);
           };
     }
+
+pub put-purse : (b : Bench) (p : ℕ) (q : Purse) → p < length (b .purses) → Table b → PutOk b p q → Table (withPurse b p q)
+put-purse b p q here t k =
+    put-list b p q (set (b .purses) p q) (put-replaced b p q here) (omega (arith, t .few, length-set (b .purses) p q)) t k
 
 -- a message at the end
 pub count-end : (m k : Message) (ms : List Message) → countM k (ms ++ (m ∷ [])) ≡ countM k ms + bit (sameMessage k m)
@@ -140,7 +190,7 @@ at-end m k ms T h f g =
     (which (sameMessage k m))
 
 abbrev still : (b : Bench) (ms : List Message) (es : List Entry) → Grown b (record { purses = b .purses; messages = ms; archive = es })
-still b ms es = record { same = refl; next = λ (k : ℕ). omega arith }
+still b ms es = record { more = omega arith; next = λ (k : ℕ). omega arith }
 
 abbrev clear-still : {b : Bench} {m : Message} (ms : List Message) (es : List Entry) → ClearOk b m → ClearOk (record { purses = b .purses; messages = ms; archive = es }) m
 clear-still ms es c = record { epr = c .epr; epv = c .epv }

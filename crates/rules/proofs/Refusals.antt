@@ -1,48 +1,34 @@
--- What an answer says of what is left standing: a refusal changes nothing, and no purse changes but the one in the event's second byte.
--- Of any bench, well formed or not: what is done puts one purse back, appends at most one message or entry, or takes one message out.
+-- What an answer says of what is left standing: a refusal changes nothing, no purse changes but the one that the event touches, and none
+-- leaves the table. Of any bench, well formed or not: what is done puts one purse back or one behind the others, appends at most one
+-- message or entry, or takes one message out.
 -- Assumes nothing.
 use Prim.Native.Nat.{ℕ, _≤_}
-use mathlib.Core.Path.{_≡_, refl}
-use mathlib.Core.Bool.{Bool, true, false, _&&_, cond}
+use mathlib.Core.Path.{_≡_, refl, _∙_, sym, ap}
+use mathlib.Core.Bool.{Bool, true, false, not, cond}
 use mathlib.Core.Logic.{⊎-elim}
 use mathlib.Core.List.{List, [], _∷_, _++_}
-use lib.ListN.{length, getD, set}
+use lib.ListN.{length, getD, set, length-set}
 use lib.Seq.{getD-set-other}
 use lib.Dec.{ltb, leb, eqb}
 use native.Mathlib.Omega.{arith}
-use Rattle.bigendian.specs.Bytes.{numberAt}
-use Rattle.purse.specs.declared.Name.{Name}
-use Rattle.purse.specs.declared.Seq.{Seq}
-use Rattle.purse.specs.declared.Amount.{Amount}
+use borrow.Author.Tests.{eqb-false}
 use Rattle.purse.specs.declared.Message.{Message}
 use Rattle.purse.specs.declared.Purse.{Purse}
 use Rattle.purse.specs.declared.CardAnswer.{CardAnswer}
 use Rattle.purse.specs.declared.CardEvent.{CardEvent}
 use Rattle.purse.specs.declared.CardEvent.the-variants as card
-use Rattle.purse.specs.Lists.{without}
-use Rattle.purse.specs.Purse.{zeroPurse}
-use Rattle.purse.proofs.Bools.{which}
+use Rattle.purse.specs.Lists.{among, without}
+use Rattle.purse.specs.Purse.{ceiling, zeroPurse}
+use Rattle.purse.proofs.Bools.{nor-l, which}
 use Rattle.desk.specs.declared.Entry.{Entry}
 use Rattle.rules.specs.declared.Event.{Event}
-use Rattle.rules.specs.declared.Event.the-variants.{Malformed, StartFrom, StartTo, Deliver, Abort, Lose, Collect}
-use Rattle.rules.specs.Bench.{Bench, called, purseAt, messageAt}
+use Rattle.rules.specs.declared.Event.the-variants.{Malformed, StartFrom, StartTo, Deliver, Abort, Lose, Collect, Issue, Load}
+use Rattle.rules.specs.Bench.{Bench, called, openedAt, purseAt, messageAt}
 use Rattle.rules.specs.Table.{tableOk}
-use Rattle.rules.specs.Events.{decodedAs, decoded}
-use Rattle.rules.specs.Steps.{Answer, refused, withMessages, carried, archiving, told, noPurse, noMessage, starting, delivering, acting, step}
-
--- an event of any kind, by its purse
-by-kind : (T : Event → Type 0) (kind purse other num amount : ℕ) → T Malformed → ((o : Name) (s : Seq) (a : Amount) → T (StartFrom (called purse) o s a)) → ((o : Name) (s : Seq) (a : Amount) → T (StartTo (called purse) o s a)) → ((i : ℕ) → T (Deliver (called purse) i)) → T (Abort (called purse)) → ((i : ℕ) → T (Lose i)) → T (Collect (called purse)) → T (decodedAs kind purse other num amount)
-by-kind T kind purse other num amount m f t d a l c =
-    pick (eqb kind 1) _ _ (f _ _ _)
-    (pick (eqb kind 2) _ _ (t _ _ _)
-    (pick (eqb kind 3) _ _ (pick (eqb other 0 && eqb amount 0) _ _ (d _) m)
-    (pick (eqb kind 4) _ _ (pick (eqb other 0 && eqb num 0 && eqb amount 0) _ _ a m)
-    (pick (eqb kind 5) _ _ (pick (eqb purse 0 && eqb other 0 && eqb amount 0) _ _ (l _) m)
-    (pick (eqb kind 6) _ _ (pick (eqb other 0 && eqb num 0 && eqb amount 0) _ _ c m) m)))))
-  where
-    pick : (x : Bool) (e f : Event) → T e → T f → T (cond x e f)
-    pick true e f g h = g
-    pick false e f g h = h
+use Rattle.rules.specs.Events.{decoded}
+use Rattle.rules.specs.Steps.{Answer, classOk, refused, carried, archiving, told, noPurse, noMessage, starting, delivering, acting, touched, step}
+use Rattle.rules.specs.Run.{run}
+use Rattle.rules.proofs.Puts.{new-replaced}
 
 module _ (b : Bench) (T : Answer → Type 0) (no : (n : ℕ) → T (refused n b)) where
   -- what a step may leave: one purse put back, other messages, other entries
@@ -86,28 +72,40 @@ module _ (b : Bench) (T : Answer → Type 0) (no : (n : ℕ) → T (refused n b)
   delivering-by p i put =
       or-refused (noPurse b p) 4 _ (or-refused (noMessage b i) 5 _ (carried-by p (told b p (card.Deliver (messageAt b i))) put))
 
-  acting-by : (l : List ℕ) → Puts (getD l 1 0) → ((ms : List Message) → T (record { answer = 0; bench = withMessages b ms })) → T (acting b (decoded l))
-  unfolding acting decoded
-  acting-by l put lose =
-      ⊎-elim
-      (λ (e : (eqb (length l) 12 && eqb (getD l 3 0) 0) ≡ true).
-      rw e
-      (by-kind (λ (v : Event). T (acting b v)) (getD l 0 0) (getD l 1 0) (getD l 2 0) (numberAt 4 l 4) (numberAt 4 l 8)
-      (no 3)
-      (λ o s a. starting-by (getD l 1 0) (o .0) (card.StartFrom o s a) put)
-      (λ o s a. starting-by (getD l 1 0) (o .0) (card.StartTo o s a) put)
-      (λ i. delivering-by (getD l 1 0) i put)
-      (or-refused (noPurse b (getD l 1 0)) 4 _ (carried-by (getD l 1 0) (told b (getD l 1 0) card.Abort) put))
-      (λ i. or-refused (noMessage b i) 5 _ (lose (without i (b .messages))))
-      (or-refused (noPurse b (getD l 1 0)) 4 _ (archiving-by (getD l 1 0) (told b (getD l 1 0) card.Collect) put))))
-      (λ (e : (eqb (length l) 12 && eqb (getD l 3 0) 0) ≡ false). rw e (no 3))
-      (which (eqb (length l) 12 && eqb (getD l 3 0) 0))
+  -- what an event may leave: its purses put back, other messages, other entries; or a new purse
+  abbrev Leaves : Event → Type 0
+  Leaves e =
+      (ps : List Purse) (ms : List Message) (es : List Entry) (n : ℕ) → n ≤ 1 → length (b .purses) ≤ length ps → ((k : ℕ) → among eqb k (touched b e) ≡ false → getD ps k zeroPurse ≡ purseAt b k) → T (record { answer = n; bench = record { purses = ps; messages = ms; archive = es } })
 
-  step-by : (l : List ℕ) → Puts (getD l 1 0) → ((ms : List Message) → T (record { answer = 0; bench = withMessages b ms })) → T (step b l)
+  one-put : (p k : ℕ) (q : Purse) → among eqb k (p ∷ []) ≡ false → getD (set (b .purses) p q) k zeroPurse ≡ purseAt b k
+  one-put p k q h = getD-set-other (b .purses) p k q zeroPurse (eqb-false k p (nor-l (eqb k p) false h))
+
+  put-by : (p : ℕ) (e : Event) → touched b e ≡ p ∷ [] → Leaves e → Puts p
+  put-by p e z leaves q ms es n small =
+      leaves (set (b .purses) p q) ms es n small (omega (arith, length-set (b .purses) p q)) (λ k h. one-put p k q (ap (among eqb k) (sym z) ∙ h))
+
+  acting-by : (e : Event) → Leaves e → T (acting b e)
+  unfolding acting
+  acting-by Malformed leaves = no 3
+  acting-by (StartFrom p o s a) leaves = starting-by (p .0) (o .0) (card.StartFrom o s a) (put-by (p .0) (StartFrom p o s a) refl leaves)
+  acting-by (StartTo p o s a) leaves = starting-by (p .0) (o .0) (card.StartTo o s a) (put-by (p .0) (StartTo p o s a) refl leaves)
+  acting-by (Deliver p i) leaves = delivering-by (p .0) i (put-by (p .0) (Deliver p i) refl leaves)
+  acting-by (Abort p) leaves = or-refused (noPurse b (p .0)) 4 _ (carried-by (p .0) (told b (p .0) card.Abort) (put-by (p .0) (Abort p) refl leaves))
+  acting-by (Lose i) leaves = or-refused (noMessage b i) 5 _ (leaves (b .purses) (without i (b .messages)) (b .archive) 0 (omega arith) (omega arith) (λ k h. refl))
+  acting-by (Collect p) leaves = or-refused (noPurse b (p .0)) 4 _ (archiving-by (p .0) (told b (p .0) card.Collect) (put-by (p .0) (Collect p) refl leaves))
+  acting-by (Issue class v) leaves =
+      or-refused (leb 32 (length (b .purses))) 24 _
+      (or-refused (not (classOk class)) 22 _
+      (or-refused (ltb (ceiling (openedAt (v .0))) (v .0)) 21 _
+      (leaves (b .purses ++ (openedAt (v .0) ∷ [])) (b .messages) (b .archive) 0 (omega arith) (new-replaced b (openedAt (v .0)) .more) (λ k h.
+      new-replaced b (openedAt (v .0)) .other k (eqb-false k (length (b .purses)) (nor-l (eqb k (length (b .purses))) false h))))))
+  acting-by (Load p a) leaves = or-refused (noPurse b (p .0)) 4 _ (carried-by (p .0) (told b (p .0) (card.Load a)) (put-by (p .0) (Load p a) refl leaves))
+
+  step-by : (l : List ℕ) → Leaves (decoded l) → T (step b l)
   unfolding step
-  step-by l put lose =
+  step-by l leaves =
       ⊎-elim
-      (λ (w : tableOk b ≡ true). rw w (acting-by l put lose))
+      (λ (w : tableOk b ≡ true). rw w (acting-by (decoded l) leaves))
       (λ (w : tableOk b ≡ false). rw w (no 2))
       (which (tableOk b))
 
@@ -115,12 +113,20 @@ module _ (b : Bench) (T : Answer → Type 0) (no : (n : ℕ) → T (refused n b)
 pub refused-same : (b : Bench) (l : List ℕ) → 2 ≤ step b l .answer → step b l .bench ≡ b
 refused-same b l =
     step-by b (λ (a : Answer). 2 ≤ a .answer → a .bench ≡ b) (λ n h. refl) l
-    (λ q ms es n small h. absurd (omega arith))
-    (λ ms h. absurd (omega arith))
+    (λ ps ms es n small more same h. absurd (omega arith))
 
--- a purse that the event does not name stays as it is
-pub others-same : (b : Bench) (l : List ℕ) (k : ℕ) → (k ≡ getD l 1 0 → ⊥) → purseAt (step b l .bench) k ≡ purseAt b k
+-- a purse that the event does not touch stays as it is
+pub others-same : (b : Bench) (l : List ℕ) (k : ℕ) → among eqb k (touched b (decoded l)) ≡ false → purseAt (step b l .bench) k ≡ purseAt b k
 others-same b l k other =
     step-by b (λ (a : Answer). purseAt (a .bench) k ≡ purseAt b k) (λ n. refl) l
-    (λ q ms es n small. getD-set-other (b .purses) (getD l 1 0) k q zeroPurse other)
-    (λ ms. refl)
+    (λ ps ms es n small more same. same k other)
+
+-- no purse leaves the table
+pub step-grows : (b : Bench) (l : List ℕ) → length (b .purses) ≤ length (step b l .bench .purses)
+step-grows b l =
+    step-by b (λ (a : Answer). length (b .purses) ≤ length (a .bench .purses)) (λ n. omega arith) l
+    (λ ps ms es n small more same. more)
+
+pub run-grows : (b : Bench) (ls : List (List ℕ)) → length (b .purses) ≤ length (run b ls .purses)
+run-grows b [] = omega arith
+run-grows b (l ∷ ls) = omega (arith, step-grows b l, run-grows (step b l .bench) ls)

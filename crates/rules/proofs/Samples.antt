@@ -6,8 +6,7 @@ use Rattle.purse.specs.declared.Details.{Details}
 use Rattle.purse.specs.Lists.{padded}
 use Rattle.purse.specs.Details.{zeroDetails}
 use Rattle.purse.specs.Purse.{logPlaces}
-use Rattle.rules.specs.Bench.{Bench, called}
-use Rattle.rules.specs.Run.{openedAt}
+use Rattle.rules.specs.Bench.{Bench, called, openedAt}
 
 -- a number's four bytes, and an event's twelve
 abbrev word : ℕ → List ℕ

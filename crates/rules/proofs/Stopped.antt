@@ -11,9 +11,8 @@ use lib.Dec.{ltb, eqb}
 use native.Mathlib.Omega.{arith}
 use borrow.Author.Tests.{ltb-true, ltb-false, eqb-true, lt-leb, le-leb, le-ltb}
 use Rattle.bigendian.specs.Bytes.{numberAt}
-use Rattle.purse.specs.declared.Details.{Details}
 use Rattle.purse.specs.declared.Purse.{Purse}
-use Rattle.purse.specs.Step.{abortNumber, abortBy, aborted, stopped, taken}
+use Rattle.purse.specs.Step.{abortNumber, abortBy, aborted}
 use Rattle.purse.specs.Lists.{all, among}
 use Rattle.purse.specs.Purse.{zeroPurse}
 use Rattle.purse.proofs.Bools.{and-l, and-r, either, which}
@@ -25,30 +24,7 @@ use Rattle.rules.specs.Run.{run, answers}
 use Rattle.rules.specs.Paid.{abortOf}
 use Rattle.rules.proofs.Facts.{Table, is-table}
 use Rattle.rules.proofs.Puts.{put-cases}
-use Rattle.rules.proofs.Moves.{step-moves, begunFrom, begunTo, payerAfter, payeeAfter, idleAfter}
 use Rattle.rules.proofs.Kept.{keep-step}
-
--- the bench has as many purses after a step as before
-pub step-length : (b : Bench) (l : List ℕ) → tableOk b ≡ true → length (step b l .bench .purses) ≡ length (b .purses)
-step-length b l w =
-    step-moves b (is-table b w) (λ (c : Bench) (x y : List Details). length (c .purses) ≡ length (b .purses))
-    (record {
-      stays = refl;
-      from = λ p o s a st g. length-set (b .purses) p (begunFrom b p o s a);
-      to = λ p o s a st g ms x. length-set (b .purses) p (begunTo b p o s a);
-      pay = λ p k g ms x. length-set (b .purses) p (payerAfter b p);
-      get = λ p k g ms x. length-set (b .purses) p (payeeAfter b p);
-      settle = λ p k g. length-set (b .purses) p (idleAfter b p);
-      quit = λ p k l g. length-set (b .purses) p (idleAfter b p);
-      stop = λ p k l g. length-set (b .purses) p (stopped (purseAt b p));
-      drop = λ i l. refl;
-      collect = λ p k l g r. length-set (b .purses) p (taken (purseAt b p));
-    })
-    w l
-
-pub run-length : (b : Bench) (ls : List (List ℕ)) → tableOk b ≡ true → length (run b ls .purses) ≡ length (b .purses)
-run-length b [] w = refl
-run-length b (l ∷ ls) w = run-length (step b l .bench) ls (keep-step b l w) ∙ step-length b l w
 
 aborted-idle : (q : Purse) → aborted q .status ≡ 0
 aborted-idle q =
@@ -70,6 +46,18 @@ abort-none : (b : Bench) (p : ℕ) → tableOk b ≡ true → length (b .purses)
 unfolding step decoded numberAt acting
 abort-none b p w hp = rw (w, le-leb (length (b .purses)) p hp)
 
+-- and it leaves as many purses as there were
+pub abort-length : (b : Bench) (p : ℕ) → tableOk b ≡ true → length (step b (abortOf p) .bench .purses) ≡ length (b .purses)
+abort-length b p w =
+    ⊎-elim
+    (λ (e : ltb p (length (b .purses)) ≡ true). rw (abort-step b p w (ltb-true _ _ e)) (length-set (b .purses) p (aborted (purseAt b p))))
+    (λ (e : ltb p (length (b .purses)) ≡ false). ap (λ (c : Bench). length (c .purses)) (abort-none b p w (ltb-false _ _ e)))
+    (which (ltb p (length (b .purses))))
+
+pub aborts-length : (b : Bench) (ps : List ℕ) → tableOk b ≡ true → length (run b (map abortOf ps) .purses) ≡ length (b .purses)
+aborts-length b [] w = refl
+aborts-length b (p ∷ ps) w = aborts-length (step b (abortOf p) .bench) ps (keep-step b (abortOf p) w) ∙ abort-length b p w
+
 -- idle stays idle
 abort-idle : (b : Bench) (p : ℕ) → tableOk b ≡ true → (k : ℕ) → (k ≡ p) ⊎ (purseAt b k .status ≡ 0) → k < length (b .purses) → purseAt (step b (abortOf p) .bench) k .status ≡ 0
 abort-idle b p w k h hk =
@@ -90,7 +78,7 @@ abort-idle b p w k h hk =
 pub aborts-idle : (b : Bench) (ps : List ℕ) → tableOk b ≡ true → (k : ℕ) → k < length (b .purses) → (among eqb k ps ≡ true) ⊎ (purseAt b k .status ≡ 0) → purseAt (run b (map abortOf ps)) k .status ≡ 0
 aborts-idle b [] w k hk h = ⊎-elim (λ (e : false ≡ true). let z : _≡_ {A = ℕ} 0 1 = cc in absurd (omega arith)) (λ (e : purseAt b k .status ≡ 0). e) h
 aborts-idle b (p ∷ ps) w k hk h =
-    aborts-idle (step b (abortOf p) .bench) ps (keep-step b (abortOf p) w) k (rw (step-length b (abortOf p) w) hk)
+    aborts-idle (step b (abortOf p) .bench) ps (keep-step b (abortOf p) w) k (rw (abort-length b p w) hk)
     (⊎-elim
     (λ (e : (eqb k p || among eqb k ps) ≡ true).
     ⊎-elim (λ (f : eqb k p ≡ true). inr (abort-idle b p w k (inl (eqb-true _ _ f)) hk)) (λ (f : among eqb k ps ≡ true). inl f)
@@ -106,7 +94,7 @@ aborts-done b (p ∷ ps) w h =
     let e : step b (abortOf p) .answer ≡ 0 = ap (λ (a : Answer). a .answer) (abort-step b p w hp) in
     let r : answers (step b (abortOf p) .bench) (map abortOf ps) ≡ map (λ (p : ℕ). 0) ps =
     aborts-done (step b (abortOf p) .bench) ps (keep-step b (abortOf p) w)
-    (rw (step-length b (abortOf p) w) (and-r (ltb p (length (b .purses))) (all (λ (p : ℕ). ltb p (length (b .purses))) ps) h))
+    (rw (abort-length b p w) (and-r (ltb p (length (b .purses))) (all (λ (p : ℕ). ltb p (length (b .purses))) ps) h))
     in
     λ i. e i ∷ r i
 

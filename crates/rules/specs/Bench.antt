@@ -11,7 +11,7 @@ use Rattle.purse.specs.declared.Message.{Message}
 use Rattle.purse.specs.declared.Purse.{Purse}
 use Rattle.purse.specs.Lists.{among}
 use Rattle.purse.specs.Details.{zeroMessage, sameDetails}
-use Rattle.purse.specs.Purse.{idle, zeroPurse}
+use Rattle.purse.specs.Purse.{idle, zeroPurse, openedPurse}
 use Rattle.desk.specs.declared.Entry.{Entry}
 
 pub record Bench : Type 0 where
@@ -21,6 +21,9 @@ pub record Bench : Type 0 where
 
 abbrev pub called : ℕ → Name
 called n = record { 0 = n }
+
+abbrev pub openedAt : ℕ → Purse
+openedAt b = openedPurse (record { 0 = b })
 
 abbrev pub purseAt : Bench → ℕ → Purse
 purseAt b n = getD (b .purses) n zeroPurse

@@ -6,11 +6,10 @@ use lib.ListN.{getD}
 use lib.Dec.{leb}
 use Rattle.purse.specs.declared.Details.{Details}
 use Rattle.purse.specs.declared.Purse.{Purse}
-use Rattle.purse.specs.Details.{request, value}
 use Rattle.purse.specs.Purse.{zeroPurse}
 use Rattle.desk.specs.declared.Held.{Held}
 use Rattle.rules.specs.Events.{decoded}
-use Rattle.rules.specs.Paid.{delivers}
+use Rattle.rules.specs.Paid.{Addition, Effect, nothing, effectOf}
 use Rattle.rules.specs.Laid.{seen, heldStep}
 
 -- the record at a place of the lent table
@@ -20,14 +19,19 @@ heldPurse h p = getD (h .table) p zeroPurse
 abbrev pub heldBalance : Held → ℕ → ℕ
 heldBalance h p = heldPurse h p .balance .0
 
--- "at the delivery of its request [value] that answers 0 or 1"
-abbrev pub heldMoved : ℕ → Held → List (List ℕ) → List Details
-heldMoved k h [] = []
-heldMoved k h (e ∷ es) =
-    cond (leb (heldStep h e .answer) 1) (delivers k (seen h) (decoded e)) [] ++ heldMoved k (heldStep h e .held) es
+-- what an event moved, and one part of what the events of a run moved
+abbrev pub heldEffect : Held → List ℕ → Effect
+heldEffect h e = cond (leb (heldStep h e .answer) 1) (effectOf (seen h) (decoded e)) nothing
+
+abbrev pub heldGathered : {A : Type 0} → (Effect → List A) → Held → List (List ℕ) → List A
+heldGathered part h [] = []
+heldGathered part h (e ∷ es) = part (heldEffect h e) ++ heldGathered part (heldStep h e .held) es
 
 abbrev pub heldPaid : Held → List (List ℕ) → List Details
-heldPaid = heldMoved request
+heldPaid = heldGathered (λ (x : Effect). x .paid)
 
 abbrev pub heldArrived : Held → List (List ℕ) → List Details
-heldArrived = heldMoved value
+heldArrived = heldGathered (λ (x : Effect). x .arrived)
+
+abbrev pub heldAdded : Held → List (List ℕ) → List Addition
+heldAdded = heldGathered (λ (x : Effect). x .added)

@@ -14,11 +14,11 @@ use Rattle.purse.specs.Purse.{idle, lastSeq, logPlaces, ceiling}
 use Rattle.purse.specs.Step.{expected}
 use Rattle.desk.specs.declared.Held.{Held}
 use Rattle.rules.specs.declared.Event.{Event}
-use Rattle.rules.specs.declared.Event.the-variants.{Malformed, StartFrom, StartTo, Deliver, Abort, Lose, Collect}
-use Rattle.rules.specs.Bench.{Bench, purseAt, messageAt}
+use Rattle.rules.specs.declared.Event.the-variants.{Malformed, StartFrom, StartTo, Deliver, Abort, Lose, Collect, Issue, Load}
+use Rattle.rules.specs.Bench.{Bench, openedAt, purseAt, messageAt}
 use Rattle.rules.specs.Table.{tableOk}
 use Rattle.rules.specs.Events.{decoded}
-use Rattle.rules.specs.Steps.{noPurse, noMessage}
+use Rattle.rules.specs.Steps.{classOk, noPurse, noMessage}
 use Rattle.rules.specs.Laid.{seen, heldOk}
 
 -- 256 messages stand: one that is sent is lost
@@ -59,6 +59,23 @@ collectTests b p =
     ∷ (leb 256 (length (b .archive)) ⇒ 15)
     ∷ []
 
+-- 02, A5: "issue [2, 3,] 24 (32 purses stand already), 22, 21"
+abbrev pub issueTests : Bench → ℕ → ℕ → List Test
+issueTests b class v =
+    (leb 32 (length (b .purses)) ⇒ 24)
+    ∷ (not (classOk class) ⇒ 22)
+    ∷ (ltb (ceiling (openedAt v)) v ⇒ 21)
+    ∷ []
+
+-- "load [2, 3,] 4, 7, 8, 12"
+abbrev pub loadTests : Bench → Name → Amount → List Test
+loadTests b p a =
+    (noPurse b (p .0) ⇒ 4)
+    ∷ (not (legal a) ⇒ 7)
+    ∷ (not (eqb (purseAt b (p .0) .status) idle) ⇒ 8)
+    ∷ (ltb (ceiling (purseAt b (p .0))) (purseAt b (p .0) .balance .0 + a .0) ⇒ 12)
+    ∷ []
+
 -- what each kind tests after 2; a request and a value that are taken send a message, an acknowledge none
 abbrev pub testsOf : Bench → Event → List Test
 testsOf b Malformed = (true ⇒ 3) ∷ []
@@ -68,6 +85,8 @@ testsOf b (Deliver p i) = deliverTests b p i ++ ((not (eqb (messageAt b i .kind)
 testsOf b (Abort p) = (noPurse b (p .0) ⇒ 4) ∷ []
 testsOf b (Lose i) = (noMessage b i ⇒ 5) ∷ []
 testsOf b (Collect p) = collectTests b p
+testsOf b (Issue class v) = issueTests b class (v .0)
+testsOf b (Load p a) = loadTests b p a
 
 -- 2 before every other test
 abbrev pub order : Bench → List ℕ → List Test

@@ -4,15 +4,11 @@ use mathlib.Core.Bool.{_&&_, not}
 use mathlib.Core.List.{List, [], _∷_, map}
 use lib.ListN.{length}
 use lib.Dec.{leb}
-use Rattle.purse.specs.declared.Purse.{Purse}
 use Rattle.purse.specs.Lists.{all}
 use Rattle.purse.specs.Tests.{_⇒_, first}
-use Rattle.purse.specs.Purse.{ceiling, openedPurse}
-use Rattle.rules.specs.Bench.{Bench}
+use Rattle.purse.specs.Purse.{ceiling}
+use Rattle.rules.specs.Bench.{Bench, openedAt}
 use Rattle.rules.specs.Steps.{step}
-
-abbrev pub openedAt : ℕ → Purse
-openedAt b = openedPurse (record { 0 = b })
 
 -- "20, 21: not 1 to 32 purses; a balance above 5,000,000"
 unfoldable pub openingNumber : List ℕ → ℕ

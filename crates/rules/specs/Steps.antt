@@ -1,21 +1,23 @@
 -- The step of each kind of event. Its tests stand in the order of document 01's list for that kind; the tests that read one purse
 -- alone are the card's, in the same order behind them.
 use Prim.Native.Nat.{ℕ}
-use mathlib.Core.Bool.{Bool, cond}
+use mathlib.Core.Bool.{Bool, not, cond}
 use mathlib.Core.List.{List, [], _∷_, _++_}
 use lib.ListN.{length, set}
 use lib.Dec.{ltb, leb, eqb}
+use Rattle.purse.specs.declared.Amount.{Amount}
 use Rattle.purse.specs.declared.Message.{Message}
 use Rattle.purse.specs.declared.Purse.{Purse}
 use Rattle.purse.specs.declared.CardAnswer.{CardAnswer}
 use Rattle.purse.specs.declared.CardEvent.{CardEvent}
 use Rattle.purse.specs.declared.CardEvent.the-variants as card
 use Rattle.purse.specs.Lists.{without}
+use Rattle.purse.specs.Purse.{ceiling}
 use Rattle.purse.specs.Card.{stepBy}
 use Rattle.desk.specs.declared.Entry.{Entry}
 use Rattle.rules.specs.declared.Event.{Event}
-use Rattle.rules.specs.declared.Event.the-variants.{Malformed, StartFrom, StartTo, Deliver, Abort, Lose, Collect}
-use Rattle.rules.specs.Bench.{Bench, called, purseAt, messageAt}
+use Rattle.rules.specs.declared.Event.the-variants.{Malformed, StartFrom, StartTo, Deliver, Abort, Lose, Collect, Issue, Load}
+use Rattle.rules.specs.Bench.{Bench, called, openedAt, purseAt, messageAt}
 use Rattle.rules.specs.Table.{tableOk}
 use Rattle.rules.specs.Events.{decoded}
 
@@ -23,12 +25,20 @@ pub record Answer : Type 0 where
   pub answer : ℕ
   pub bench : Bench
 
+-- the classes that a purse may be issued with: A2 brings the others, and `openedAt` the class
+abbrev pub classOk : ℕ → Bool
+classOk c = eqb c 0
+
 -- "Answers from 2 up change nothing anywhere"
 abbrev pub refused : ℕ → Bench → Answer
 refused n b = record { answer = n; bench = b }
 
 abbrev pub withPurse : Bench → ℕ → Purse → Bench
 withPurse b p q = record { purses = set (b .purses) p q; messages = b .messages; archive = b .archive }
+
+-- "issues a purse at the next free place"; "it starts as an opened purse does"
+abbrev pub withNew : Bench → ℕ → Bench
+withNew b v = record { purses = b .purses ++ (openedAt v ∷ []); messages = b .messages; archive = b .archive }
 
 abbrev pub withMessages : Bench → List Message → Bench
 withMessages b ms = record { purses = b .purses; messages = ms; archive = b .archive }
@@ -99,6 +109,18 @@ losing b i =
 abbrev pub collecting : Bench → ℕ → Answer
 collecting b p = cond (noPurse b p) (refused 4 b) (archiving b p (told b p card.Collect))
 
+-- "issue 2, 3, 24 (32 purses stand already), 22, 21" (02, A5)
+abbrev pub issuing : Bench → ℕ → ℕ → Answer
+issuing b class v =
+    cond (leb 32 (length (b .purses))) (refused 24 b)
+    (cond (not (classOk class)) (refused 22 b)
+    (cond (ltb (ceiling (openedAt v)) v) (refused 21 b)
+    (record { answer = 0; bench = withNew b v })))
+
+-- "load 2, 3, 4, 7, 8, 12"
+abbrev pub loading : Bench → ℕ → Amount → Answer
+loading b p a = cond (noPurse b p) (refused 4 b) (carried b p (told b p (card.Load a)))
+
 -- the step of an event, at a table that is well formed
 unfoldable pub acting : Bench → Event → Answer
 acting b Malformed = refused 3 b
@@ -108,6 +130,20 @@ acting b (Deliver p i) = delivering b (p .0) i
 acting b (Abort p) = aborting b (p .0)
 acting b (Lose i) = losing b i
 acting b (Collect p) = collecting b (p .0)
+acting b (Issue class v) = issuing b class (v .0)
+acting b (Load p a) = loading b (p .0) a
+
+-- the purses that an event may change: the one it names, or the one it issues
+abbrev pub touched : Bench → Event → List ℕ
+touched b Malformed = []
+touched b (StartFrom p o s a) = p .0 ∷ []
+touched b (StartTo p o s a) = p .0 ∷ []
+touched b (Deliver p i) = p .0 ∷ []
+touched b (Abort p) = p .0 ∷ []
+touched b (Lose i) = []
+touched b (Collect p) = p .0 ∷ []
+touched b (Issue class v) = length (b .purses) ∷ []
+touched b (Load p a) = p .0 ∷ []
 
 -- 2 before every other test
 unfoldable pub step : Bench → List ℕ → Answer

@@ -30,4 +30,12 @@ pub enum Event {
     Collect {
         purse: Name,
     },
+    Issue {
+        class: u8,
+        balance: Amount,
+    },
+    Load {
+        purse: Name,
+        amount: Amount,
+    },
 }
