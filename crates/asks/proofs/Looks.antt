@@ -14,7 +14,8 @@ use Rattle.purse.specs.Details.{zeroMessage}
 use Rattle.purse.proofs.Bools.{which}
 use Rattle.desk.specs.declared.Desk.{Desk}
 use Rattle.rules.specs.declared.Event.{Event}
-use Rattle.rules.specs.declared.Event.the-variants.{Malformed, StartFrom, StartTo, Deliver, Abort, Lose, Collect}
+use Rattle.rules.specs.declared.Event.the-variants.{Malformed, StartFrom, StartTo, Deliver, Abort, Lose, Collect, Issue, Load}
+use Rattle.rules.specs.Bench.{called}
 use Rattle.asks.specs.Asks.{placeIn, placeOf, deliveredAt, within, seenWith, seenAt}
 
 pub within-less : (n : ℕ) → within n < 256
@@ -43,19 +44,21 @@ placed n =
     (λ (w : leb (n .0) 31 ≡ false). rw w (omega arith))
     (which (leb (n .0) 31))
 
-place-below : (e : Event) → placeOf e < 32
+place-below : (purses : ℕ) (e : Event) → placeOf purses e < 32
 unfolding placeOf
-place-below Malformed = omega arith
-place-below (StartFrom own other s a) = placed own
-place-below (StartTo own other s a) = placed own
-place-below (Deliver own i) = placed own
-place-below (Abort own) = placed own
-place-below (Lose i) = omega arith
-place-below (Collect own) = placed own
+place-below purses Malformed = omega arith
+place-below purses (StartFrom own other s a) = placed own
+place-below purses (StartTo own other s a) = placed own
+place-below purses (Deliver own i) = placed own
+place-below purses (Abort own) = placed own
+place-below purses (Lose i) = omega arith
+place-below purses (Collect own) = placed own
+place-below purses (Issue class v) = placed (called purses)
+place-below purses (Load own a) = placed own
 
 pub look-below : (purses messages entries : ℕ) (m : Message) (e : Event) → seenWith purses messages entries m e .place < 32
 unfolding seenWith
-look-below purses messages entries m e = place-below e
+look-below purses messages entries m e = place-below purses e
 
 pub seen-below : (d : Desk) (e : Event) → seenAt d e .place < 32
-seen-below d e = place-below e
+seen-below d e = place-below (d .purses) e

@@ -1,13 +1,16 @@
 // What an event asks for: the tests that read the desk, in document 01's order.
 use crate::Asked;
 use crate::Seen;
+use purse::Amount;
 use purse::CardEvent;
 use purse::Name;
+use purse::Purse;
 use purse::tested;
 use rules::Event;
 ghost use mathlib.Core.Path.{_≡_};
 ghost use Rattle.purse.specs.Tests.{first};
-ghost use Rattle.asks.specs.Asks.{startTests, deliverTests, purseTests, loseTests, toTell, toCollect, toLose, asked};
+ghost use Rattle.rules.specs.Steps.{classOk};
+ghost use Rattle.asks.specs.Asks.{startTests, deliverTests, purseTests, loseTests, issueTests, toTell, toCollect, toLose, toIssue, asked};
 
 fn start_number(purses: u8, own: Name, other: Name) -> u8
     ensures { λ r. ⌜ r ≡ first (startTests purses own other) ⌝ }
@@ -39,6 +42,22 @@ fn lose_number(messages: u16, place: u32) -> u8
     tested(0, stand <= place, 5)
 }
 
+// The classes that a purse may be issued with.
+fn class_ok(class: u8) -> bool
+    ensures { λ r. ⌜ r ≡ classOk class ⌝ }
+{
+    class == 0
+}
+
+fn issue_number(purses: u8, class: u8, balance: Amount) -> u8
+    ensures { λ r. ⌜ r ≡ first (issueTests purses class balance) ⌝ }
+{
+    let n = tested(0, 32 <= purses, 24); // a free place first
+    let n = tested(n, !class_ok(class), 22);
+    let n = tested(n, Purse::MAX_BALANCE.0 < balance.0, 21);
+    n
+}
+
 // The card is told, where no test before found a number.
 fn telling(n: u8, own: Name, event: CardEvent) -> Asked
     ensures { λ r. ⌜ r ≡ toTell n own event ⌝ }
@@ -68,6 +87,17 @@ fn losing(n: u8, place: u32) -> Asked
 {
     if n == 0 {
         Asked::Lose(place)
+    } else {
+        Asked::Refused(n)
+    }
+}
+
+// A purse is issued, likewise.
+fn issuing(n: u8, balance: Amount) -> Asked
+    ensures { λ r. ⌜ r ≡ toIssue n balance ⌝ }
+{
+    if n == 0 {
+        Asked::Issue(balance)
     } else {
         Asked::Refused(n)
     }
@@ -110,6 +140,14 @@ pub fn ask(seen: Seen, event: Event) -> Asked
         Event::Collect { purse } => {
             let n = purse_number(seen.purses, purse);
             collecting(n, purse, seen.entries)
+        }
+        Event::Issue { class, balance } => {
+            let n = issue_number(seen.purses, class, balance);
+            issuing(n, balance)
+        }
+        Event::Load { purse, amount } => {
+            let n = purse_number(seen.purses, purse);
+            telling(n, purse, CardEvent::Load(amount))
         }
     }
 }

@@ -1,4 +1,5 @@
 // What an event asks for: the record and the message that it means, and the tests that read the desk. By value.
+use purse::Amount;
 use purse::CardEvent;
 use purse::Message;
 use purse::Name;
@@ -22,10 +23,12 @@ pub struct Seen {
 }
 
 // What an event asks for, behind the tests that read the desk: it is refused; or a message goes; or the card is told something, and its
-// message is sent; or the card is told to collect, and its entry is stored in an archive that may be full.
+// message is sent; or the card is told to collect, and its entry is stored in an archive that may be full; or a purse is issued with a first
+// balance.
 pub enum Asked {
     Refused(u8),
     Lose(u32),
     Tell { own: Name, event: CardEvent },
     Collect { own: Name, full: bool },
+    Issue(Amount),
 }

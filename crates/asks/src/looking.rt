@@ -14,9 +14,9 @@ fn place_in(name: Name) -> usize
     if n <= Name::LAST { n as usize } else { 0 }
 }
 
-// The record that an event names; 0 where it names none.
-fn place_of(event: Event) -> usize
-    ensures { λ r. ⌜ r ≡ placeOf event ⌝ }
+// The record that an event means, where that many purses stand: the one that it names, or the next free one; 0 where it means none.
+fn place_of(purses: u8, event: Event) -> usize
+    ensures { λ r. ⌜ r ≡ placeOf purses event ⌝ }
 {
     match event {
         Event::Malformed => 0,
@@ -36,6 +36,11 @@ fn place_of(event: Event) -> usize
         Event::Abort { purse } => place_in(purse),
         Event::Lose { place: _ } => 0,
         Event::Collect { purse } => place_in(purse),
+        Event::Issue {
+            class: _,
+            balance: _,
+        } => place_in(Name(purses)),
+        Event::Load { purse, amount: _ } => place_in(purse),
     }
 }
 
@@ -61,6 +66,14 @@ pub fn delivered_at(event: Event) -> usize
         Event::Abort { purse: _ } => 256,
         Event::Lose { place: _ } => 256,
         Event::Collect { purse: _ } => 256,
+        Event::Issue {
+            class: _,
+            balance: _,
+        } => 256,
+        Event::Load {
+            purse: _,
+            amount: _,
+        } => 256,
     }
 }
 
@@ -75,7 +88,7 @@ pub fn within(n: usize) -> usize
 pub fn look(purses: u8, messages: u16, entries: u16, m: Message, event: Event) -> Seen
     ensures { λ r. ⌜ r ≡ seenWith purses messages entries m event ⌝ }
 {
-    let place = place_of(event);
+    let place = place_of(purses, event);
     if delivered_at(event) < 256 {
         Seen {
             place: place,

@@ -35,18 +35,32 @@ returns-10 : tie.Need-returns-10
 returns-10 c = simp (c .before .before .before .match .keys6, c .if4 .left)
 
 returns-11 : tie.Need-returns-11
-returns-11 c = simp (c .match .keys7)
+returns-11 c = simp (c .before .before .match .keys7, c .if5 .taken)
 
 returns-12 : tie.Need-returns-12
-returns-12 c =
+returns-12 c = simp (c .before .before .match .keys7, c .if5 .left)
+
+returns-13 : tie.Need-returns-13
+returns-13 c = simp (c .before .before .match .keys8, c .if6 .taken)
+
+returns-14 : tie.Need-returns-14
+returns-14 c = simp (c .before .before .match .keys8, c .if6 .left)
+
+returns-15 : tie.Need-returns-15
+returns-15 c = simp (c .match .keys9)
+
+returns-16 : tie.Need-returns-16
+returns-16 c =
     let no = c .match .rest in
     simp (
-      ne-eqb _ 1 (no .0 .0 .0 .0 .0 .0 .1),
-      ne-eqb _ 2 (no .0 .0 .0 .0 .0 .1),
-      ne-eqb _ 3 (no .0 .0 .0 .0 .1),
-      ne-eqb _ 4 (no .0 .0 .0 .1),
-      ne-eqb _ 5 (no .0 .0 .1),
-      ne-eqb _ 6 (no .0 .1),
+      ne-eqb _ 1 (no .0 .0 .0 .0 .0 .0 .0 .0 .1),
+      ne-eqb _ 2 (no .0 .0 .0 .0 .0 .0 .0 .1),
+      ne-eqb _ 3 (no .0 .0 .0 .0 .0 .0 .1),
+      ne-eqb _ 4 (no .0 .0 .0 .0 .0 .1),
+      ne-eqb _ 5 (no .0 .0 .0 .0 .1),
+      ne-eqb _ 6 (no .0 .0 .0 .1),
+      ne-eqb _ 7 (no .0 .0 .1),
+      ne-eqb _ 8 (no .0 .1),
     )
 
 pub fields-spec : {M : Type 1} → statement M
@@ -64,4 +78,8 @@ fields-spec =
     returns-9
     returns-10
     returns-11
-    returns-12)
+    returns-12
+    returns-13
+    returns-14
+    returns-15
+    returns-16)

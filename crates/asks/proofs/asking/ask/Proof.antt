@@ -63,6 +63,24 @@ purse-number-requires-2 c κs = search needs
 collecting-requires : tie.Need-collecting-requires
 collecting-requires c κs = search needs
 
+enum-known-event-7 : tie.Need-enum-known-event-7
+enum-known-event-7 c = search needs
+
+issue-number-requires : tie.Need-issue-number-requires
+issue-number-requires c κs = search needs
+
+issuing-requires : tie.Need-issuing-requires
+issuing-requires c κs = search needs
+
+enum-known-event-8 : tie.Need-enum-known-event-8
+enum-known-event-8 c = search needs
+
+purse-number-requires-3 : tie.Need-purse-number-requires-3
+purse-number-requires-3 c κs = search needs
+
+telling-requires-5 : tie.Need-telling-requires-5
+telling-requires-5 c κs = search needs
+
 returns : tie.Need-returns
 unfolding asked
 returns c = rw (c .enum-told .given .1)
@@ -91,6 +109,14 @@ returns-7 : tie.Need-returns-7
 unfolding asked
 returns-7 c = rw (c .collecting .ensures, c .before .purse-number2 .ensures, c .before .before .before .event6 .given .1)
 
+returns-8 : tie.Need-returns-8
+unfolding asked
+returns-8 c = rw (c .issuing .ensures, c .before .issue-number .ensures, c .before .before .before .event7 .given .1)
+
+returns-9 : tie.Need-returns-9
+unfolding asked
+returns-9 c = rw (c .telling5 .ensures, c .before .purse-number3 .ensures, c .before .before .before .event8 .given .1)
+
 pub ask-spec : {M : Type 1} → statement M
 ask-spec =
     tie.close
@@ -114,10 +140,18 @@ ask-spec =
     enum-known-event-6
     purse-number-requires-2
     collecting-requires
+    enum-known-event-7
+    issue-number-requires
+    issuing-requires
+    enum-known-event-8
+    purse-number-requires-3
+    telling-requires-5
     returns
     returns-2
     returns-3
     returns-4
     returns-5
     returns-6
-    returns-7)
+    returns-7
+    returns-8
+    returns-9)

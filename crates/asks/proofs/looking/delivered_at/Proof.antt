@@ -29,6 +29,12 @@ enum-told-5 c = search needs
 enum-told-6 : tie.Need-enum-told-6
 enum-told-6 c = search needs
 
+enum-told-7 : tie.Need-enum-told-7
+enum-told-7 c = search needs
+
+enum-told-8 : tie.Need-enum-told-8
+enum-told-8 c = search needs
+
 returns : tie.Need-returns
 unfolding deliveredAt
 returns c = rw (c .enum-told .given .1)
@@ -57,6 +63,14 @@ returns-7 : tie.Need-returns-7
 unfolding deliveredAt
 returns-7 c = rw (c .enum-told6 .given .1)
 
+returns-8 : tie.Need-returns-8
+unfolding deliveredAt
+returns-8 c = rw (c .enum-told7 .given .1)
+
+returns-9 : tie.Need-returns-9
+unfolding deliveredAt
+returns-9 c = rw (c .enum-told8 .given .1)
+
 pub delivered-at-spec : {M : Type 1} → statement M
 delivered-at-spec =
     tie.close
@@ -69,10 +83,14 @@ delivered-at-spec =
     enum-told-4
     enum-told-5
     enum-told-6
+    enum-told-7
+    enum-told-8
     returns
     returns-2
     returns-3
     returns-4
     returns-5
     returns-6
-    returns-7)
+    returns-7
+    returns-8
+    returns-9)

@@ -15,11 +15,11 @@ use Rattle.asks.proofs.looking.look.Tie as tie
 abbrev looked : ℕ → ℕ → ℕ → ℕ → Message → Seen
 looked i u v w m = record { place = i; purses = u; messages = v; entries = w; message = m }
 
-there : (i u v w : ℕ) (m : Message) (e : Event) (at : ℕ) → i ≡ placeOf e → at ≡ deliveredAt e → at < 256 → looked i u v w m ≡ seenWith u v w m e
+there : (i u v w : ℕ) (m : Message) (e : Event) (at : ℕ) → i ≡ placeOf u e → at ≡ deliveredAt e → at < 256 → looked i u v w m ≡ seenWith u v w m e
 unfolding seenWith
 there i u v w m e at place is less = rw (place, lt-ltb (deliveredAt e) 256 (omega (arith, is, less)))
 
-past : (i u v w : ℕ) (m z : Message) (e : Event) (at : ℕ) → i ≡ placeOf e → at ≡ deliveredAt e → 256 ≤ at → z ≡ zeroMessage → looked i u v w z ≡ seenWith u v w m e
+past : (i u v w : ℕ) (m z : Message) (e : Event) (at : ℕ) → i ≡ placeOf u e → at ≡ deliveredAt e → 256 ≤ at → z ≡ zeroMessage → looked i u v w z ≡ seenWith u v w m e
 unfolding seenWith
 past i u v w m z e at place is more zero = rw (place, le-ltb (deliveredAt e) 256 (omega (arith, is, more)), zero)
 

@@ -41,6 +41,18 @@ enum-known-event-5 c = search needs
 place-in-requires-5 : tie.Need-place-in-requires-5
 place-in-requires-5 c κs = search needs
 
+enum-told-3 : tie.Need-enum-told-3
+enum-told-3 c = search needs
+
+place-in-requires-6 : tie.Need-place-in-requires-6
+place-in-requires-6 c κs = search needs
+
+enum-known-event-6 : tie.Need-enum-known-event-6
+enum-known-event-6 c = search needs
+
+place-in-requires-7 : tie.Need-place-in-requires-7
+place-in-requires-7 c κs = search needs
+
 returns : tie.Need-returns
 unfolding placeOf
 returns c = rw (c .enum-told .given .1)
@@ -69,6 +81,14 @@ returns-7 : tie.Need-returns-7
 unfolding placeOf
 returns-7 c = rw (c .place-in5 .ensures, c .before .before .event5 .given .1)
 
+returns-8 : tie.Need-returns-8
+unfolding placeOf
+returns-8 c = rw (c .place-in6 .ensures, c .before .enum-told3 .given .1)
+
+returns-9 : tie.Need-returns-9
+unfolding placeOf
+returns-9 c = rw (c .place-in7 .ensures, c .before .before .event6 .given .1)
+
 pub place-of-spec : {M : Type 1} → statement M
 place-of-spec =
     tie.close
@@ -85,10 +105,16 @@ place-of-spec =
     enum-told-2
     enum-known-event-5
     place-in-requires-5
+    enum-told-3
+    place-in-requires-6
+    enum-known-event-6
+    place-in-requires-7
     returns
     returns-2
     returns-3
     returns-4
     returns-5
     returns-6
-    returns-7)
+    returns-7
+    returns-8
+    returns-9)
