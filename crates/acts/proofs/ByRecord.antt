@@ -2,17 +2,18 @@
 -- Why: on lists laid out in their places a read, a store, a message more or less and an entry more are those of the lists (the laws of
 -- Padded), and each kind's tests are the same numbers; a refusal puts back the record that was read.
 -- Assumes nothing.
-use Prim.Native.Nat.{ℕ, suc, _+_, _-_, _<_}
+use Prim.Native.Nat.{ℕ, suc, _+_, _-_, _≤_, _<_}
 use mathlib.Core.Path.{_≡_, _∙_, sym, ap}
-use mathlib.Core.Bool.{true, false}
+use mathlib.Core.Bool.{true, false, not, cond}
 use mathlib.Core.Logic.{⊎-elim}
 use mathlib.Core.List.{List, [], _∷_, _++_}
-use lib.ListN.{length, getD, take, drop, set, length-set, length-append, length-drop}
+use lib.ListN.{length, getD, take, drop, set, length-set, length-append, length-drop, List·getD-eq-default}
 use lib.Seq.{set-getD, length-take-le}
 use lib.Dec.{ltb, leb, eqb}
 use native.Mathlib.Omega.{arith}
 use borrow.Author.Tests.{leb-false, ltb-true, le-leb, lt-ltb}
 use Rattle.purse.specs.declared.Name.{Name}
+use Rattle.purse.specs.declared.Amount.{Amount}
 use Rattle.purse.specs.declared.Details.{Details}
 use Rattle.purse.specs.declared.Message.{Message}
 use Rattle.purse.specs.declared.Purse.{Purse}
@@ -22,7 +23,7 @@ use Rattle.purse.specs.declared.CardEvent.the-variants as card
 use Rattle.purse.specs.Lists.{padded, without}
 use Rattle.purse.specs.Tests.{first}
 use Rattle.purse.specs.Details.{zeroDetails, zeroMessage}
-use Rattle.purse.specs.Purse.{zeroPurse}
+use Rattle.purse.specs.Purse.{ceiling, zeroPurse, openedPurse}
 use Rattle.refusals.specs.Heads.{headOf}
 use Rattle.refusals.specs.Numbers.{collectNumber}
 use Rattle.turns.specs.declared.Turned.{Turned}
@@ -30,24 +31,24 @@ use Rattle.turns.specs.Turns.{takenAt, turnCollect, turnBy}
 use Rattle.card.specs.Act.{recordAfter, answeredBy, actBy}
 use Rattle.card.proofs.ByAct.{step-act}
 use Rattle.purse.proofs.Bools.{which}
-use Rattle.purse.proofs.Padded.{set-padded, push-padded, pull-padded, read-padded}
+use Rattle.purse.proofs.Padded.{set-padded, push-padded, pull-padded, read-anywhere, read-padded}
 use Rattle.desk.specs.declared.Entry.{Entry}
 use Rattle.desk.specs.declared.Desk.{Desk}
 use Rattle.desk.specs.declared.Held.{Held}
 use Rattle.desk.specs.declared.Answered.{Answered}
 use Rattle.desk.specs.Desk.{zeroEntry, added, takenOut, stored}
 use Rattle.rules.specs.declared.Event.{Event}
-use Rattle.rules.specs.declared.Event.the-variants.{Malformed, StartFrom, StartTo, Deliver, Abort, Lose, Collect}
-use Rattle.rules.specs.Bench.{Bench, purseAt, messageAt}
+use Rattle.rules.specs.declared.Event.the-variants.{Malformed, StartFrom, StartTo, Deliver, Abort, Lose, Collect, Issue, Load}
+use Rattle.rules.specs.Bench.{Bench, called, openedAt, purseAt, messageAt}
 use Rattle.rules.specs.Events.{decoded}
-use Rattle.rules.specs.Steps.{Answer, withPurse, sending, carried, archiving, told, starting, delivering, aborting, losing, collecting, acting}
+use Rattle.rules.specs.Steps.{Answer, classOk, refused, withPurse, sending, carried, archiving, told, noPurse, starting, delivering, losing, collecting, issuing, acting}
 use Rattle.rules.specs.Laid.{laid, seen, heldOk, heldStep}
 use Rattle.rules.proofs.Places.{seen-ok, laid-seen}
 use Rattle.rules.proofs.Facts.{Table, is-table}
 use Rattle.asks.specs.declared.Asked.the-variants as asks
 use Rattle.acts.specs.declared.Change.the-variants as change
-use Rattle.asks.specs.Asks.{placeIn, placeOf, deliveredAt, startTests, deliverTests, purseTests, loseTests, toTell, toCollect, toLose, asked}
-use Rattle.acts.specs.Acts.{orFull, toldAt, toSend, changeOf, carriedOut, refusedOn, settled, answeredOn, actOn, putBack, byRecord}
+use Rattle.asks.specs.Asks.{placeIn, placeOf, deliveredAt, startTests, deliverTests, purseTests, loseTests, issueTests, toTell, toCollect, toLose, toIssue, asked}
+use Rattle.acts.specs.Acts.{orFull, toldAt, toSend, changeOf, oneMore, carriedOut, refusedOn, settled, answeredOn, actOn, putBack, byRecord}
 
 -- an answer on the lists, laid out
 abbrev shown : Answer → Answered
@@ -206,12 +207,13 @@ module _ (b : Bench) (t : Table b) (own : Name) where
       (which (leb (length (b .messages)) i))))
       (which (leb (length (b .purses)) (own .0)))
 
-  aborts : shown (aborting b (own .0)) ≡ putBack (laid b) (placeIn own) (answeredOn here (laid b .desk) (toTell (first (purseTests (length (b .purses)) own)) own card.Abort))
+  -- an abort, a load: after 4 the card is told
+  tells : (e : CardEvent) → shown (cond (noPurse b (own .0)) (refused 4 b) (carried b (own .0) (told b (own .0) e))) ≡ putBack (laid b) (placeIn own) (answeredOn here (laid b .desk) (toTell (first (purseTests (length (b .purses)) own)) own e))
   unfolding settled toldAt toTell
-  aborts =
+  tells e =
       ⊎-elim
       (λ (w : leb (length (b .purses)) (own .0) ≡ true). rw w (stays (laid b) 4 (placeIn own)))
-      (λ (w : leb (length (b .purses)) (own .0) ≡ false). rw w (told-laid (leb-false _ _ w) card.Abort))
+      (λ (w : leb (length (b .purses)) (own .0) ≡ false). rw w (told-laid (leb-false _ _ w) e))
       (which (leb (length (b .purses)) (own .0)))
 
   collects : shown (collecting b (own .0)) ≡ putBack (laid b) (placeIn own) (answeredOn here (laid b .desk) (toCollect (first (purseTests (length (b .purses)) own)) own (length (b .archive))))
@@ -248,15 +250,46 @@ loses b t i =
     }))
     (which (leb (length (b .messages)) i))
 
+-- the record behind the others is all zero, and gets the head of an opened purse
+issues : (b : Bench) (t : Table b) (class : ℕ) (v : Amount) → shown (issuing b class (v .0)) ≡ putBack (laid b) (placeIn (called (length (b .purses)))) (answeredOn (getD (laid b .table) (placeIn (called (length (b .purses)))) zeroPurse) (laid b .desk) (toIssue (first (issueTests (length (b .purses)) class v)) v))
+unfolding settled toldAt changeOf toIssue carriedOut oneMore
+issues b t class v =
+    let n : ℕ = length (b .purses) in
+    let i : ℕ = placeIn (called n) in
+    ⊎-elim
+    (λ (x : leb 32 n ≡ true). rw x (stays (laid b) 24 i))
+    (λ (x : leb 32 n ≡ false).
+    rw x
+    (⊎-elim
+    (λ (y : not (classOk class) ≡ true). rw y (stays (laid b) 22 i))
+    (λ (y : not (classOk class) ≡ false).
+    rw y
+    (⊎-elim
+    (λ (z : ltb (ceiling (openedAt (v .0))) (v .0) ≡ true). rw z (stays (laid b) 21 i))
+    (λ (z : ltb (ceiling (openedAt (v .0))) (v .0) ≡ false).
+    let f : n < 32 = leb-false _ _ x in
+    let end : n ≤ n = omega arith in
+    let j : i ≡ n = rw (le-leb n 31 (omega arith)) in
+    let r : getD (laid b .table) i zeroPurse ≡ zeroPurse = ap (λ (k : ℕ). getD (laid b .table) k zeroPurse) j ∙ (read-anywhere 32 zeroPurse (b .purses) n ∙ List·getD-eq-default (b .purses) zeroPurse end) in
+    let s : padded 32 zeroPurse (b .purses ++ (openedPurse v ∷ [])) ≡ set (laid b .table) i (openedPurse v) = sym (ap (λ (k : ℕ). set (laid b .table) k (openedPurse v)) j ∙ push-padded 32 zeroPurse (b .purses) (openedPurse v) f) in
+    let c : length (b .purses ++ (openedPurse v ∷ [])) ≡ n + 1 = length-append (b .purses) (openedPurse v ∷ []) in
+    rw (z, r, lt-ltb _ _ f)
+    (λ k. record { answer = 0; held = record { table = s k; desk = record { purses = c k; ether = laid b .desk .ether; archive = laid b .desk .archive } } }))
+    (which (ltb (ceiling (openedAt (v .0))) (v .0)))))
+    (which (not (classOk class)))))
+    (which (leb 32 n))
+
 acts : (b : Bench) (t : Table b) (e : Event) → shown (acting b e) ≡ byRecord (laid b) e
 unfolding acting byRecord actOn settled toldAt asked deliveredAt placeOf
 acts b t Malformed = stays (laid b) 3 0
 acts b t (StartFrom own other s a) = starts b t own other (card.StartFrom other s a)
 acts b t (StartTo own other s a) = starts b t own other (card.StartTo other s a)
 acts b t (Deliver own i) = delivers b t own i
-acts b t (Abort own) = aborts b t own
+acts b t (Abort own) = tells b t own card.Abort
 acts b t (Lose i) = loses b t i
 acts b t (Collect own) = collects b t own
+acts b t (Issue class v) = issues b t class v
+acts b t (Load own a) = tells b t own (card.Load a)
 
 pub step-by-record : (h : Held) (l : List ℕ) → heldOk h ≡ true → heldStep h l ≡ byRecord h (decoded l)
 unfolding heldStep

@@ -1,20 +1,21 @@
 -- What an event does, at a table that is well formed: it touches the desk and the one record that it means. What it asks for is told to the
 -- card, at the head of the record (`toldAt`); then it is settled (`settled`). That this is the bench's step is `step-by-record`.
-use Prim.Native.Nat.{ℕ}
+use Prim.Native.Nat.{ℕ, _+_}
 use mathlib.Core.Bool.{Bool, cond}
 use lib.ListN.{getD, set}
-use lib.Dec.{eqb}
+use lib.Dec.{ltb, eqb}
 use Rattle.purse.specs.declared.Name.{Name}
 use Rattle.purse.specs.declared.Message.{Message}
 use Rattle.purse.specs.declared.Purse.{Purse}
 use Rattle.purse.specs.declared.CardEvent.the-variants as card
 use Rattle.purse.specs.Tests.{after}
-use Rattle.purse.specs.Details.{zeroDetails}
-use Rattle.purse.specs.Purse.{zeroPurse}
+use Rattle.purse.specs.Details.{zeroDetails, zeroMessage}
+use Rattle.purse.specs.Purse.{zeroPurse, openedPurse}
 use Rattle.refusals.specs.declared.Head.{Head}
 use Rattle.refusals.specs.Heads.{headOf}
 use Rattle.turns.specs.declared.Turned.{Turned}
-use Rattle.turns.specs.Turns.{refusedAt, turnBy}
+use Rattle.turns.specs.declared.LogChange.the-variants as log
+use Rattle.turns.specs.Turns.{refusedAt, doneAt, turnBy}
 use Rattle.card.specs.Act.{recordAfter}
 use Rattle.desk.specs.declared.Entry.{Entry}
 use Rattle.desk.specs.declared.Ether.{Ether}
@@ -40,12 +41,14 @@ pub record Acted : Type 0 where
 abbrev pub orFull : Bool → Turned → Turned
 orFull full t = record { head = t .head; message = t .message; answer = after (t .answer) full 15; log = t .log }
 
--- the card is told, at the head of its record
+-- the card is told, at the head of its record; an issued purse "starts as an opened purse does" (02, A5), and its record was all zero, so its
+-- log is empty
 unfoldable pub toldAt : Head → Asked → Turned
 toldAt h (asks.Refused n) = refusedAt n h
 toldAt h (asks.Lose i) = refusedAt 0 h
 toldAt h (asks.Tell own e) = turnBy h own e
 toldAt h (asks.Collect own full) = orFull full (turnBy h own card.Collect)
+toldAt h (asks.Issue v) = doneAt (headOf (openedPurse v)) log.Nothing zeroMessage
 
 -- the card's message is to be sent; kind 0 is no message: nothing is sent
 unfoldable pub toSend : Message → Change
@@ -62,6 +65,14 @@ changeOf p (asks.Refused n) m = change.Nothing
 changeOf p (asks.Lose i) m = change.Lose i
 changeOf p (asks.Tell own e) m = toSend m
 changeOf p (asks.Collect own full) m = change.Store (entryOf p own)
+changeOf p (asks.Issue v) m = change.Issue
+
+-- one purse more, of at most 32
+unfoldable pub oneMore : ℕ → ℕ
+oneMore n = cond (ltb n 32) (n + 1) n
+
+abbrev pub withPurses : Desk → ℕ → Desk
+withPurses d n = record { purses = n; ether = d .ether; archive = d .archive }
 
 abbrev pub withEther : Desk → Ether → Desk
 withEther d e = record { purses = d .purses; ether = e; archive = d .archive }
@@ -70,7 +81,7 @@ abbrev pub withArchive : Desk → Archive → Desk
 withArchive d a = record { purses = d .purses; ether = d .ether; archive = a }
 
 -- a change at the desk, q being the record's next state. "Sending appends at the end of the messages"; where it is lost "the answer is 1".
--- "Lose: that message goes".
+-- "Lose: that message goes". Issue: the record behind the others is now a purse of the table.
 unfoldable pub carriedOut : Purse → Desk → Change → Acted
 carriedOut q d change.Nothing = record { answer = 0; purse = q; desk = d }
 carriedOut q d (change.Send m) =
@@ -81,6 +92,7 @@ carriedOut q d (change.Send m) =
     }
 carriedOut q d (change.Lose i) = record { answer = 0; purse = q; desk = withEther d (takenOut (d .ether) i .ether) }
 carriedOut q d (change.Store e) = record { answer = 0; purse = q; desk = withArchive d (stored (d .archive) e) }
+carriedOut q d change.Issue = record { answer = 0; purse = q; desk = withPurses d (oneMore (d .purses)) }
 
 -- "Answers from 2 up change nothing anywhere"
 abbrev pub refusedOn : ℕ → Purse → Desk → Acted

@@ -3,6 +3,7 @@
 use crate::Change;
 use asks::Asked;
 use desk::Entry;
+use purse::Amount;
 use purse::CardEvent;
 use purse::Message;
 use purse::Name;
@@ -12,8 +13,11 @@ use refusals::Head;
 use turns::LogChange;
 use turns::Turned;
 ghost use mathlib.Core.Path.{_≡_};
-ghost use Rattle.turns.specs.Turns.{refusedAt, turnBy};
-ghost use Rattle.acts.specs.Acts.{orFull, toldAt, toSend, entryOf, changeOf};
+ghost use Rattle.purse.specs.Details.{zeroMessage};
+ghost use Rattle.purse.specs.Purse.{openedPurse};
+ghost use Rattle.refusals.specs.Heads.{headOf};
+ghost use Rattle.turns.specs.Turns.{refusedAt, doneAt, turnBy};
+ghost use Rattle.acts.specs.Acts.{orFull, toldAt, toSend, entryOf, changeOf, oneMore};
 
 // The head as it was, the log too, and nothing sent.
 fn left(head: Head, n: u8) -> Turned
@@ -36,6 +40,18 @@ fn collect(head: Head, own: Name, full: bool) -> Turned
     t
 }
 
+// A purse is issued: its record, all zero so far, gets the head of an opened purse.
+fn issue(balance: Amount) -> Turned
+    ensures { λ r. ⌜ r ≡ doneAt (headOf (openedPurse balance)) LogChange.Nothing zeroMessage ⌝ }
+{
+    Turned {
+        head: Head::of(Purse::opened(balance)),
+        message: Message::zero(),
+        answer: 0,
+        log: LogChange::Nothing,
+    }
+}
+
 // What is asked for, at the head of the record: the card is told.
 pub fn tell(head: Head, asked: Asked) -> Turned
     ensures { λ r. ⌜ r ≡ toldAt head asked ⌝ }
@@ -45,6 +61,7 @@ pub fn tell(head: Head, asked: Asked) -> Turned
         Asked::Lose(_) => left(head, 0),
         Asked::Tell { own, event } => turns::turn(head, own, event),
         Asked::Collect { own, full } => collect(head, own, full),
+        Asked::Issue(balance) => issue(balance),
     }
 }
 
@@ -79,5 +96,13 @@ pub fn change_of(p: Purse, asked: Asked, m: Message) -> Change
         Asked::Lose(place) => Change::Lose(place),
         Asked::Tell { own: _, event: _ } => sending(m),
         Asked::Collect { own, full: _ } => Change::Store(entry_of(p, own)),
+        Asked::Issue(_) => Change::Issue,
     }
+}
+
+// One purse more, of at most 32.
+pub fn one_more(purses: u8) -> u8
+    ensures { λ r. ⌜ r ≡ oneMore purses ⌝ }
+{
+    if purses < 32 { purses + 1 } else { purses }
 }

@@ -2,6 +2,7 @@
 use crate::Ran;
 use acts::Change;
 use acts::change_of;
+use acts::one_more;
 use acts::tell;
 use asks::ask;
 use asks::delivered_at;
@@ -34,7 +35,7 @@ pub(crate) fn each(held: Held, input: &[u8], answers: &mut [u8], n: usize) -> He
 {
     let mut table = held.table;
     let desk = held.desk;
-    let purses = desk.purses;
+    let mut purses = desk.purses;
     let mut ether = desk.ether;
     let mut archive = desk.archive;
     let mut i: usize = 0;
@@ -74,6 +75,9 @@ pub(crate) fn each(held: Held, input: &[u8], answers: &mut [u8], n: usize) -> He
                 Change::Store(entry) => {
                     let next = archive.store(entry);
                     archive = next;
+                }
+                Change::Issue => {
+                    purses = one_more(purses);
                 }
             }
         }

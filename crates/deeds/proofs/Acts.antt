@@ -22,7 +22,7 @@ use Rattle.desk.specs.Desk.{zeroEntry, added, stored}
 use Rattle.rules.specs.declared.Event.{Event}
 use Rattle.asks.specs.declared.Seen.{Seen}
 use Rattle.acts.specs.declared.Change.{Change}
-use Rattle.acts.specs.declared.Change.the-variants.{Nothing, Send, Lose, Store}
+use Rattle.acts.specs.declared.Change.the-variants.{Nothing, Send, Lose, Store, Issue}
 use Rattle.asks.specs.declared.Asked.{Asked}
 use Rattle.asks.specs.Asks.{within, seenAt, asked}
 use Rattle.asks.proofs.Looks.{within-is}
@@ -76,6 +76,10 @@ module _ (d : Desk) where
     unfolding doing carriedOut deskAfter
     loses-so q k = rw (same-messages, same-entries)
 
+    issues-so : (q : Purse) → actedBy d (doing q s last entry Issue) ≡ carriedOut q d Issue
+    unfolding doing carriedOut deskAfter
+    issues-so q = rw (same-messages, same-entries)
+
     stays-too : (q : Purse) → actedBy d (doing q s last entry Nothing) ≡ carriedOut q d Nothing
     unfolding doing carriedOut
     stays-too q = stays-so 0 q
@@ -85,6 +89,7 @@ module _ (d : Desk) where
     does-so q (Send m) = ⊎-elim (sends-so q m) (sends-lost q m) (which (ltb (d .ether .count) 256))
     does-so q (Lose k) = loses-so q k
     does-so q (Store e) = ⊎-elim (stores-so q e) (stores-not q e) (which (ltb (d .archive .count) 256))
+    does-so q Issue = issues-so q
 
     settles-so : (p : Purse) (a : Asked) (t : Turned) → actedBy d (deedOf p s last entry a t) ≡ settled p d t (changeOf p a (t .message))
     unfolding deedOf settled

@@ -1,5 +1,5 @@
--- What an event writes in a lent table and desk, place by place, so that nothing else is moved: its record, the place behind the messages
--- and the place behind the entries, with both counts; a loss moves the later messages down. What an event leaves as it was is written as
+-- What an event writes in a lent table and desk, place by place, so that nothing else is moved: its record, the number of purses, the place
+-- behind the messages and the place behind the entries, with both counts; a loss moves the later messages down. What an event leaves as it was is written as
 -- it stood. That this is the bench's step is `deed-acts` in proofs/.
 use Prim.Native.Nat.{ℕ, _+_}
 use mathlib.Core.Bool.{true, false, cond}
@@ -18,9 +18,9 @@ use Rattle.rules.specs.declared.Event.{Event}
 use Rattle.asks.specs.declared.Seen.{Seen}
 use Rattle.asks.specs.declared.Asked.{Asked}
 use Rattle.acts.specs.declared.Change.{Change}
-use Rattle.acts.specs.declared.Change.the-variants.{Nothing, Send, Lose, Store}
+use Rattle.acts.specs.declared.Change.the-variants.{Nothing, Send, Lose, Store, Issue}
 use Rattle.asks.specs.Asks.{within, asked}
-use Rattle.acts.specs.Acts.{toldAt, changeOf, withEther}
+use Rattle.acts.specs.Acts.{toldAt, changeOf, oneMore, withEther}
 use Rattle.deeds.specs.declared.Deed.{Deed}
 
 -- the record is q, and the desk stays
@@ -29,6 +29,7 @@ deskStays n q s last entry =
     record {
       answer = n;
       purse = q;
+      purses = s .purses;
       message = last;
       messages = s .messages;
       entry = entry;
@@ -45,6 +46,7 @@ doing q s last entry (Send m) =
     (record {
       answer = 0;
       purse = q;
+      purses = s .purses;
       message = m;
       messages = s .messages + 1;
       entry = entry;
@@ -57,6 +59,7 @@ doing q s last entry (Lose i) =
     record {
       answer = 0;
       purse = q;
+      purses = s .purses;
       message = last;
       messages = s .messages;
       entry = entry;
@@ -69,6 +72,7 @@ doing q s last entry (Store e) =
     (record {
       answer = 0;
       purse = q;
+      purses = s .purses;
       message = last;
       messages = s .messages;
       entry = e;
@@ -77,6 +81,18 @@ doing q s last entry (Store e) =
       place = 0;
     })
     (deskStays 0 q s last entry)
+doing q s last entry Issue =
+    record {
+      answer = 0;
+      purse = q;
+      purses = oneMore (s .purses);
+      message = last;
+      messages = s .messages;
+      entry = entry;
+      entries = s .entries;
+      loses = false;
+      place = 0;
+    }
 
 -- what is asked for, told to the card at the head of its record p
 unfoldable pub deedOf : Purse → Seen → Message → Entry → Asked → Turned → Deed
@@ -96,11 +112,11 @@ deedAt p s d e =
     (getD (d .archive .places) (within (d .archive .count)) zeroEntry)
     e
 
--- the desk with a deed's message and entry behind those that stood
+-- the desk with a deed's number of purses, and its message and entry behind those that stood
 abbrev pub writtenOn : Desk → Deed → Desk
 writtenOn d c =
     record {
-      purses = d .purses;
+      purses = c .purses;
       ether = record { places = set (d .ether .places) (within (d .ether .count)) (c .message); count = c .messages };
       archive = record { places = set (d .archive .places) (within (d .archive .count)) (c .entry); count = c .entries };
     }

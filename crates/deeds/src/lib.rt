@@ -2,6 +2,7 @@
 // record that it means and the few places that it reads.
 use acts::Change;
 use acts::change_of;
+use acts::one_more;
 use acts::tell;
 use asks::Asked;
 use asks::Seen;
@@ -23,11 +24,12 @@ ghost use Rattle.desk.specs.Desk.{takenOut};
 ghost use Rattle.asks.specs.Asks.{deliveredAt, within, seenWith};
 ghost use Rattle.deeds.specs.Deeds.{deskStays, doing, deedOf, deedBy};
 
-// What an event writes: the answer, its record's next state, what then stands behind the messages and behind the entries with their
-// counts, and the place of a message that is lost.
+// What an event writes: the answer, its record's next state, the number of purses, what then stands behind the messages and behind the
+// entries with their counts, and the place of a message that is lost.
 pub struct Deed {
     pub answer: u8,
     pub purse: Purse,
+    pub purses: u8,
     pub message: Message,
     pub messages: u16,
     pub entry: Entry,
@@ -64,6 +66,7 @@ fn desk_stays(answer: u8, q: Purse, s: Seen, last: Message, entry: Entry) -> Dee
     Deed {
         answer: answer,
         purse: q,
+        purses: s.purses,
         message: last,
         messages: s.messages,
         entry: entry,
@@ -84,6 +87,7 @@ fn doing(q: Purse, s: Seen, last: Message, entry: Entry, change: Change) -> Deed
                 Deed {
                     answer: 0,
                     purse: q,
+                    purses: s.purses,
                     message: m,
                     messages: s.messages + 1,
                     entry: entry,
@@ -98,6 +102,7 @@ fn doing(q: Purse, s: Seen, last: Message, entry: Entry, change: Change) -> Deed
         Change::Lose(place) => Deed {
             answer: 0,
             purse: q,
+            purses: s.purses,
             message: last,
             messages: s.messages,
             entry: entry,
@@ -110,6 +115,7 @@ fn doing(q: Purse, s: Seen, last: Message, entry: Entry, change: Change) -> Deed
                 Deed {
                     answer: 0,
                     purse: q,
+                    purses: s.purses,
                     message: last,
                     messages: s.messages,
                     entry: e,
@@ -121,6 +127,17 @@ fn doing(q: Purse, s: Seen, last: Message, entry: Entry, change: Change) -> Deed
                 desk_stays(0, q, s, last, entry)
             }
         }
+        Change::Issue => Deed {
+            answer: 0,
+            purse: q,
+            purses: one_more(s.purses),
+            message: last,
+            messages: s.messages,
+            entry: entry,
+            entries: s.entries,
+            loses: false,
+            place: 0,
+        },
     }
 }
 

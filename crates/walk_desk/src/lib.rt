@@ -1,5 +1,5 @@
-// An event at a lent desk: what is seen of it there; then one message and one entry are read where they stand, and written there; of a loss
-// alone the messages are moved.
+// An event at a lent desk: what is seen of it there; then one message and one entry are read where they stand, and written there, with the
+// counts; of a loss alone the messages are moved.
 use asks::Seen;
 use deeds::Deed;
 use deeds::behind;
@@ -43,6 +43,7 @@ pub fn written_at(desk: &mut Desk, p: Purse, seen: Seen, event: &[u8]) -> Deed
         desk.archive.places[stop],
         event,
     );
+    desk.purses = d.purses;
     desk.ether.places[end] = d.message;
     desk.ether.count = d.messages;
     desk.archive.places[stop] = d.entry;

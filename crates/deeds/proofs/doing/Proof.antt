@@ -8,7 +8,8 @@ use Rattle.purse.specs.declared.Message.{Message}
 use Rattle.purse.specs.declared.Purse.{Purse}
 use Rattle.desk.specs.declared.Entry.{Entry}
 use Rattle.asks.specs.declared.Seen.{Seen}
-use Rattle.acts.specs.declared.Change.the-variants.{Send, Lose, Store}
+use Rattle.acts.specs.declared.Change.the-variants.{Send, Lose, Store, Issue}
+use Rattle.acts.specs.Acts.{oneMore}
 use Rattle.deeds.specs.declared.Deed.{Deed}
 use Rattle.deeds.specs.Deeds.{deskStays, doing}
 use borrow.Author.Needs.{needs}
@@ -16,7 +17,7 @@ use Rattle.deeds.proofs.doing.Statement.{statement}
 use Rattle.deeds.proofs.doing.Tie as tie
 
 sends : (q : Purse) (s : Seen) (m last : Message) (entry : Entry) (n : ℕ) → n ≡ s .messages → n < 256
-    → record { answer = 0; purse = q; message = m; messages = n + 1; entry = entry; entries = s .entries; loses = false; place = 0 } ≡ doing q s last entry (Send m)
+    → record { answer = 0; purse = q; purses = s .purses; message = m; messages = n + 1; entry = entry; entries = s .entries; loses = false; place = 0 } ≡ doing q s last entry (Send m)
 unfolding doing
 sends q s m last entry n is less = rw (is, lt-ltb (s .messages) 256 (omega (arith, is, less)))
 
@@ -25,18 +26,23 @@ unfolding doing
 sends-lost q s m last entry r is more = rw (le-ltb (s .messages) 256 more) is
 
 loses : (q : Purse) (s : Seen) (last : Message) (entry : Entry) (i : ℕ)
-    → record { answer = 0; purse = q; message = last; messages = s .messages; entry = entry; entries = s .entries; loses = true; place = i } ≡ doing q s last entry (Lose i)
+    → record { answer = 0; purse = q; purses = s .purses; message = last; messages = s .messages; entry = entry; entries = s .entries; loses = true; place = i } ≡ doing q s last entry (Lose i)
 unfolding doing
 loses q s last entry i = refl
 
 stores : (q : Purse) (s : Seen) (last : Message) (entry e : Entry) (n : ℕ) → n ≡ s .entries → n < 256
-    → record { answer = 0; purse = q; message = last; messages = s .messages; entry = e; entries = n + 1; loses = false; place = 0 } ≡ doing q s last entry (Store e)
+    → record { answer = 0; purse = q; purses = s .purses; message = last; messages = s .messages; entry = e; entries = n + 1; loses = false; place = 0 } ≡ doing q s last entry (Store e)
 unfolding doing
 stores q s last entry e n is less = rw (is, lt-ltb (s .entries) 256 (omega (arith, is, less)))
 
 stores-not : (q : Purse) (s : Seen) (last : Message) (entry e : Entry) (r : Deed) → r ≡ deskStays 0 q s last entry → 256 ≤ s .entries → r ≡ doing q s last entry (Store e)
 unfolding doing
 stores-not q s last entry e r is more = rw (le-ltb (s .entries) 256 more) is
+
+issues : (q : Purse) (s : Seen) (last : Message) (entry : Entry) (n : ℕ) → n ≡ oneMore (s .purses)
+    → record { answer = 0; purse = q; purses = n; message = last; messages = s .messages; entry = entry; entries = s .entries; loses = false; place = 0 } ≡ doing q s last entry Issue
+unfolding doing
+issues q s last entry n is = rw is
 
 enum-told : tie.Need-enum-told
 enum-told c = search needs
@@ -68,6 +74,12 @@ add-t16 c = search needs
 desk-stays-requires-3 : tie.Need-desk-stays-requires-3
 desk-stays-requires-3 c κs = search needs
 
+enum-told-2 : tie.Need-enum-told-2
+enum-told-2 c = search needs
+
+one-more-requires : tie.Need-one-more-requires
+one-more-requires c κs = search needs
+
 returns : tie.Need-returns
 unfolding doing
 returns c = rw (c .before .enum-told .given .1) (c .desk-stays .ensures)
@@ -87,6 +99,9 @@ returns-5 c = rw (c .before .before .before .before .change3 .given .1) (stores 
 returns-6 : tie.Need-returns-6
 returns-6 c = rw (c .before .before .before .before .change3 .given .1) (stores-not _ _ _ _ _ _ (c .desk-stays3 .ensures) (c .before .if2 .left))
 
+returns-7 : tie.Need-returns-7
+returns-7 c = rw (c .before .enum-told2 .given .1) (issues _ _ _ _ _ (c .one-more .ensures))
+
 pub doing-spec : {M : Type 1} → statement M
 doing-spec =
     tie.close
@@ -101,9 +116,12 @@ doing-spec =
     enum-known-change-3
     add-t16
     desk-stays-requires-3
+    enum-told-2
+    one-more-requires
     returns
     returns-2
     returns-3
     returns-4
     returns-5
-    returns-6)
+    returns-6
+    returns-7)

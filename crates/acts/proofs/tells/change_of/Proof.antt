@@ -23,6 +23,9 @@ enum-known-asked-2 c = search needs
 entry-of-requires : tie.Need-entry-of-requires
 entry-of-requires c κs = search needs
 
+enum-told-3 : tie.Need-enum-told-3
+enum-told-3 c = search needs
+
 returns : tie.Need-returns
 unfolding changeOf
 returns c = rw (c .enum-told .given .1)
@@ -39,6 +42,10 @@ returns-4 : tie.Need-returns-4
 unfolding changeOf
 returns-4 c = rw (c .entry-of .ensures, c .before .before .asked2 .given .1)
 
+returns-5 : tie.Need-returns-5
+unfolding changeOf
+returns-5 c = rw (c .enum-told3 .given .1)
+
 pub change-of-spec : {M : Type 1} → statement M
 change-of-spec =
     tie.close
@@ -49,7 +56,9 @@ change-of-spec =
     sending-requires
     enum-known-asked-2
     entry-of-requires
+    enum-told-3
     returns
     returns-2
     returns-3
-    returns-4)
+    returns-4
+    returns-5)

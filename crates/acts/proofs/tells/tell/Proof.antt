@@ -29,6 +29,12 @@ enum-known-asked-3 c = search needs
 collect-requires : tie.Need-collect-requires
 collect-requires c κs = search needs
 
+enum-known-asked-4 : tie.Need-enum-known-asked-4
+enum-known-asked-4 c = search needs
+
+issue-requires : tie.Need-issue-requires
+issue-requires c κs = search needs
+
 returns : tie.Need-returns
 unfolding toldAt
 returns c = rw (c .left .ensures, c .before .before .asked .given .1)
@@ -45,6 +51,10 @@ returns-4 : tie.Need-returns-4
 unfolding toldAt
 returns-4 c = rw (c .collect .ensures, c .before .before .asked3 .given .1)
 
+returns-5 : tie.Need-returns-5
+unfolding toldAt
+returns-5 c = rw (c .issue .ensures, c .before .before .asked4 .given .1)
+
 pub tell-spec : {M : Type 1} → statement M
 tell-spec =
     tie.close
@@ -57,7 +67,10 @@ tell-spec =
     turn-requires
     enum-known-asked-3
     collect-requires
+    enum-known-asked-4
+    issue-requires
     returns
     returns-2
     returns-3
-    returns-4)
+    returns-4
+    returns-5)
