@@ -36,7 +36,7 @@ use Rattle.acts.specs.declared.Change.{Change}
 use Rattle.acts.specs.declared.Change.the-variants as change
 use Rattle.asks.specs.Asks.{deliveredAt, within, seenWith, seenAt, asked}
 use Rattle.asks.proofs.Looks.{seen-lent}
-use Rattle.acts.specs.Acts.{toldAt, changeOf, withEther, withArchive, carriedOut, settled, actOn, putBack, byRecord}
+use Rattle.acts.specs.Acts.{toldAt, changeOf, oneMore, withPurses, withEther, withArchive, carriedOut, settled, actOn, putBack, byRecord}
 use Rattle.acts.proofs.Told.{acted}
 use Rattle.acts.proofs.ByRecord.{stays}
 
@@ -106,3 +106,7 @@ module _ (h : Held) (k : ℕ) (a : Asked) (t : Turned) where
     pub when-stored : (y : Entry) (b : Archive) → c ≡ change.Store y → b ≡ stored (h .desk .archive) y → record { answer = t .answer; held = record { table = set (h .table) k q; desk = withArchive (h .desk) b } } ≡ settledAt
     unfolding carriedOut
     when-stored y b e s = rw (done, e, z, s)
+
+    pub when-issued : (n : ℕ) → c ≡ change.Issue → n ≡ oneMore (h .desk .purses) → record { answer = t .answer; held = record { table = set (h .table) k q; desk = withPurses (h .desk) n } } ≡ settledAt
+    unfolding carriedOut
+    when-issued n e s = rw (done, e, z, s)

@@ -1,8 +1,8 @@
 -- `bench::runs::each` meets its contract: the loop's invariant is `Going`, of what the bench holds put together of its parts: the run so far,
--- and the pieces that are left. A turn is one event at the parts (the laws of Parts), by the five ways on which it can go.
+-- and the pieces that are left. A turn is one event at the parts (the laws of Parts), by the six ways on which it can go.
 -- Assumes nothing.
 use Rattle.bench.proofs.Filling.{Going, going-start, going-on, going-end}
-use Rattle.bench.proofs.Parts.{bench, long-parts, settledAt, by-asked, when-refused, when-nothing, when-sent, when-lost, when-stored}
+use Rattle.bench.proofs.Parts.{bench, long-parts, settledAt, by-asked, when-refused, when-nothing, when-sent, when-lost, when-stored, when-issued}
 use Rattle.refusals.specs.declared.Head.{Head}
 use Rattle.turns.specs.declared.Turned.{Turned}
 use Rattle.asks.specs.declared.Asked.{Asked}
@@ -26,10 +26,10 @@ use Rattle.bench.proofs.runs.each.Statement.{statement}
 use Rattle.bench.proofs.runs.each.Tie as tie
 
 abbrev Inv-loop : tie.InvT-loop
-Inv-loop input answers₀ n table₀ purses ether₀ archive₀ i₀ answers table ether archive i = Going (bench table₀ purses ether₀ archive₀) (bench table purses ether archive) input answers₀ answers n i
+Inv-loop input answers₀ n table₀ purses₀ ether₀ archive₀ i₀ answers table purses ether archive i = Going (bench table₀ purses₀ ether₀ archive₀) (bench table purses ether archive) input answers₀ answers n i
 
 abbrev μ-loop : tie.MeasureT-loop
-μ-loop input answers₀ n table₀ purses ether₀ archive₀ i₀ answers table ether archive i = n - i
+μ-loop input answers₀ n table₀ purses₀ ether₀ archive₀ i₀ answers table purses ether archive i = n - i
 
 loop-holds : tie.Need-loop-holds Inv-loop μ-loop
 loop-holds c = going-start _ _ _ _ (c .before .before .before .before .before .before .pre .0)
@@ -126,6 +126,12 @@ enum-known-change-3 c = search needs
 store-requires : tie.Need-store-requires Inv-loop μ-loop
 store-requires c κs = search needs
 
+enum-told-2 : tie.Need-enum-told-2 Inv-loop μ-loop
+enum-told-2 c = search needs
+
+one-more-requires : tie.Need-one-more-requires Inv-loop μ-loop
+one-more-requires c κs = search needs
+
 slice-write-answers : tie.Need-slice-write-answers Inv-loop μ-loop
 slice-write-answers c =
     let turn = c .before .before .before .before .before .before .before .before .before .before .before in
@@ -156,7 +162,7 @@ loop-again c =
     let start = at-loop .before .before .before .before .before .before .before in
     let i = at-loop .loop .i in
     let input = start .args .input .now in
-    let h : Held = bench (at-loop .loop .table) (start .args .held .desk .purses) (at-loop .loop .ether) (at-loop .loop .archive) in
+    let h : Held = bench (at-loop .loop .table) (at-loop .loop .purses) (at-loop .loop .ether) (at-loop .loop .archive) in
     let v : Event = read .decode .result in
     let k : ℕ = looks .look .result .place in
     let a : Asked = wants .ask .result in
@@ -173,17 +179,19 @@ loop-again c =
     by-asked h k a t v _ _ _ (long .1) refl (at-any (h .table) k _ zeroPurse inside) m (looks .look .ensures) (wants .ask .ensures)
     (told .tell .ensures ∙ ap (λ (d : Head). toldAt d a) (headed .of .ensures))
     in
-    let s : Answered = record { answer = c .if1 .answer; held = bench (c .if1 .table) (start .args .held .desk .purses) (c .if1 .ether) (c .if1 .archive) } in
+    let s : Answered = record { answer = c .if1 .answer; held = bench (c .if1 .table) (c .if1 .purses) (c .if1 .ether) (c .if1 .archive) } in
     let done : s ≡ settledAt h k a t =
     ⊎-elim
-    (λ w. rw (w .7, w .8, w .9, w .10) (when-nothing h k a t (omega (arith, w .0 .taken)) _ (at-any (h .table) k _ zeroPurse inside) _ (w .4 .ensures) _ (w .3 .ensures) (w .6 .given .1)))
+    (λ w. rw (w .7, w .8, w .9, w .10, w .11) (when-nothing h k a t (omega (arith, w .0 .taken)) _ (at-any (h .table) k _ zeroPurse inside) _ (w .4 .ensures) _ (w .3 .ensures) (w .6 .given .1)))
     (⊎-elim
-    (λ w. rw (w .11, w .12, w .13, w .14) (when-sent h k a t (omega (arith, w .0 .taken)) _ (at-any (h .table) k _ zeroPurse inside) _ (w .4 .ensures) _ (w .3 .ensures) _ (w .8 .result) _ (w .6 .given .1) (w .8 .ensures) (w .10 .ensures)))
+    (λ w. rw (w .11, w .12, w .13, w .14, w .15) (when-sent h k a t (omega (arith, w .0 .taken)) _ (at-any (h .table) k _ zeroPurse inside) _ (w .4 .ensures) _ (w .3 .ensures) _ (w .8 .result) _ (w .6 .given .1) (w .8 .ensures) (w .10 .ensures)))
     (⊎-elim
-    (λ w. rw (w .10, w .11, w .12, w .13) (when-lost h k a t (omega (arith, w .0 .taken)) _ (at-any (h .table) k _ zeroPurse inside) _ (w .4 .ensures) _ (w .3 .ensures) _ (w .8 .result) (w .6 .given .1) (w .8 .ensures)))
+    (λ w. rw (w .10, w .11, w .12, w .13, w .14) (when-lost h k a t (omega (arith, w .0 .taken)) _ (at-any (h .table) k _ zeroPurse inside) _ (w .4 .ensures) _ (w .3 .ensures) _ (w .8 .result) (w .6 .given .1) (w .8 .ensures)))
     (⊎-elim
-    (λ w. rw (w .9, w .10, w .11, w .12) (when-stored h k a t (omega (arith, w .0 .taken)) _ (at-any (h .table) k _ zeroPurse inside) _ (w .4 .ensures) _ (w .3 .ensures) _ (w .8 .result) (w .6 .given .1) (w .8 .ensures)))
-    (λ w. rw (w .1, w .2, w .3, w .4) (when-refused h k a t (w .0 .left))))))
+    (λ w. rw (w .9, w .10, w .11, w .12, w .13) (when-stored h k a t (omega (arith, w .0 .taken)) _ (at-any (h .table) k _ zeroPurse inside) _ (w .4 .ensures) _ (w .3 .ensures) _ (w .8 .result) (w .6 .given .1) (w .8 .ensures)))
+    (⊎-elim
+    (λ w. rw (w .8, w .9, w .10, w .11, w .12) (when-issued h k a t (omega (arith, w .0 .taken)) _ (at-any (h .table) k _ zeroPurse inside) _ (w .4 .ensures) _ (w .3 .ensures) _ (w .6 .given .1) (w .7 .ensures)))
+    (λ w. rw (w .1, w .2, w .3, w .4, w .5) (when-refused h k a t (w .0 .left)))))))
     (c .if1 .came)
     in
     let twelve : 12 * i + 12 - 12 * i ≡ 12 = omega arith in
@@ -234,6 +242,8 @@ each-spec =
     take-out-requires
     enum-known-change-3
     store-requires
+    enum-told-2
+    one-more-requires
     slice-write-answers
     add-i
     loop-less
