@@ -80,7 +80,8 @@ enum prs_event_kind {
     PRS_DELIVER = 3,
     PRS_ABORT = 4,
     PRS_LOSE = 5,
-    PRS_COLLECT = 6
+    PRS_COLLECT = 6,
+    PRS_LOAD = 8
 };
 
 enum prs_message_kind {
@@ -156,10 +157,11 @@ typedef struct {
 
 /* What a card is told. Fields that the kind does not use are not looked at. */
 typedef struct {
-    uint8_t kind;        /* PRS_START_FROM, PRS_START_TO, PRS_ABORT or PRS_COLLECT; every other number delivers the message */
+    uint8_t kind;        /* PRS_START_FROM, PRS_START_TO, PRS_ABORT, PRS_COLLECT or PRS_LOAD; every other number delivers the
+                            message */
     prs_name other;      /* starts: the counterparty */
     prs_seq seq;         /* starts: the counterparty's sequence number */
-    prs_amount amount;   /* starts */
+    prs_amount amount;   /* starts, load */
     prs_message message; /* the message delivered */
 } prs_order;
 
@@ -172,7 +174,8 @@ typedef struct {
 /* One step of the card `own`, on its record where it stands.
    Reads and changes the record.
    Answers 0, or 2 (the record breaks a rule about one purse alone), 4 (own name above 31), then
-   a start 6, 7, 8, 9, 10, then 11 or 12; a delivery 13; a collect 14. An abort has no more. Never 1, 3, 5 or 15. */
+   a start 6, 7, 8, 9, 10, then 11 or 12; a delivery 13; a collect 14; a load 7, 8, 12. An abort has no more. Never 1, 3, 5
+   or 15. */
 prs_handed prs_card(prs_purse *purse, prs_name own, prs_order order);
 
 /* ---- The bench ---- */

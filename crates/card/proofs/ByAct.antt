@@ -10,17 +10,17 @@ use lib.Dec.{eqb}
 use Rattle.purse.specs.declared.Name.{Name}
 use Rattle.purse.specs.declared.Purse.{Purse}
 use Rattle.purse.specs.declared.CardEvent.{CardEvent}
-use Rattle.purse.specs.declared.CardEvent.the-variants.{StartFrom, StartTo, Deliver, Abort, Collect}
+use Rattle.purse.specs.declared.CardEvent.the-variants.{StartFrom, StartTo, Deliver, Abort, Collect, Load}
 use Rattle.purse.specs.Details.{zeroDetails, zeroMessage}
 use Rattle.purse.specs.Purse.{wellFormed}
-use Rattle.purse.specs.Step.{refusedBy, done, unless, fromNumber, toNumber, deliverNumber, abortNumber, collectNumber, startFrom, startTo, delivered, deliverTo, aborted, abortBy, collectBy}
+use Rattle.purse.specs.Step.{refusedBy, done, unless, fromNumber, toNumber, deliverNumber, abortNumber, collectNumber, startFrom, startTo, delivered, deliverTo, aborted, abortBy, collectBy, loadNumber, loadBy}
 use Rattle.purse.specs.Card.{stepBy}
 use Rattle.purse.proofs.Bools.{which}
 use Rattle.refusals.specs.Heads.{headOf}
-use Rattle.refusals.specs.Numbers.{fromNumber as fromAt, toNumber as toAt, deliverNumber as deliverAt, abortNumber as abortAt, collectNumber as collectAt}
-use Rattle.refusals.proofs.SameNumbers.{same-from, same-to, same-deliver, same-abort, same-collect}
+use Rattle.refusals.specs.Numbers.{fromNumber as fromAt, toNumber as toAt, deliverNumber as deliverAt, abortNumber as abortAt, collectNumber as collectAt, loadNumber as loadAt}
+use Rattle.refusals.proofs.SameNumbers.{same-from, same-to, same-deliver, same-abort, same-collect, same-load}
 use Rattle.turns.specs.declared.Turned.{Turned}
-use Rattle.turns.specs.Turns.{unlessAt, turnFrom, turnTo, deliveredAt, turnDeliver, abortedAt, turnAbort, turnCollect}
+use Rattle.turns.specs.Turns.{unlessAt, turnFrom, turnTo, deliveredAt, turnDeliver, abortedAt, turnAbort, turnCollect, turnLoad}
 use Rattle.card.specs.Act.{answeredBy, actBy}
 
 module _ (p : Purse) where
@@ -59,7 +59,7 @@ module _ (p : Purse) where
 
 module _ (own : Name) (p : Purse) (w : wellFormed own p ≡ true) where
   pub step-act : (e : CardEvent) → stepBy p own e ≡ actBy p own e
-  unfolding startFrom turnFrom startTo turnTo deliverTo turnDeliver abortBy turnAbort collectBy turnCollect
+  unfolding startFrom turnFrom startTo turnTo deliverTo turnDeliver abortBy turnAbort collectBy turnCollect loadBy turnLoad
   step-act (StartFrom other s a) = put-unless p (fromNumber p own other a) (fromAt (headOf p) own other a) _ (same-from own p w other a)
   step-act (StartTo other s a) = put-unless p (toNumber p own other a) (toAt (headOf p) own other a) _ (same-to own p w other a)
   step-act (Deliver m) =
@@ -69,14 +69,16 @@ module _ (own : Name) (p : Purse) (w : wellFormed own p ≡ true) where
       ap (unless (abortNumber p own) p) (put-aborted p)
       ∙ put-unless p (abortNumber p own) (abortAt (headOf p) own) (abortedAt (headOf p)) (same-abort own p w)
   step-act Collect = put-unless p (collectNumber p own) (collectAt (headOf p) own) _ (same-collect own p w)
+  step-act (Load a) = put-unless p (loadNumber p own a) (loadAt (headOf p) own a) _ (same-load own p w a)
 
 refused-ill : (own : Name) (p : Purse) → wellFormed own p ≡ false → (e : CardEvent) → stepBy p own e ≡ refusedBy 2 p
-unfolding startFrom fromNumber startTo toNumber deliverTo deliverNumber abortBy abortNumber collectBy collectNumber
+unfolding startFrom fromNumber startTo toNumber deliverTo deliverNumber abortBy abortNumber collectBy collectNumber loadBy loadNumber
 refused-ill own p w (StartFrom other s a) = rw w
 refused-ill own p w (StartTo other s a) = rw w
 refused-ill own p w (Deliver m) = rw w
 refused-ill own p w Abort = rw w
 refused-ill own p w Collect = rw w
+refused-ill own p w (Load a) = rw w
 
 -- the card's step: the record's test, then the act
 pub step-by-act : (p : Purse) (own : Name) (e : CardEvent) → stepBy p own e ≡ cond (wellFormed own p) (actBy p own e) (refusedBy 2 p)

@@ -1,5 +1,5 @@
-// The card: one purse record and its step. Told its own name, a card takes a start, a message, an abort or a collect, and gives the
-// answer's number, the record and what it hands out. It knows nothing of a bench.
+// The card: one purse record and its step. Told its own name, a card takes a start, a message, an abort, a collect or a load, and gives
+// the answer's number, the record and what it hands out. It knows nothing of a bench.
 use form::well_formed;
 use purse::CardAnswer;
 use purse::CardEvent;

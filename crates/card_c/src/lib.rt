@@ -13,7 +13,8 @@ ghost use mathlib.Core.Path.{_≡_};
 ghost use Rattle.purse.specs.Card.{stepBy};
 ghost use Rattle.card_c.specs.Order.{toldOf, handedOf};
 
-// What a card is told, as a foreign caller writes it: kind 1 start-from, 2 start-to, 4 abort, 6 collect, every other number a message.
+// What a card is told, as a foreign caller writes it: kind 1 start-from, 2 start-to, 4 abort, 6 collect, 8 load, every other number
+// a message.
 #[repr(C)]
 pub struct Order {
     pub kind: u8,
@@ -52,7 +53,8 @@ fn told(order: Order) -> CardEvent
         },
         4 => CardEvent::Abort,
         6 => CardEvent::Collect,
-        0 | 3 | 5 | 7..=255 => CardEvent::Deliver(message),
+        8 => CardEvent::Load(amount),
+        0 | 3 | 5 | 7 | 9..=255 => CardEvent::Deliver(message),
     }
 }
 

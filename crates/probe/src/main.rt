@@ -192,6 +192,7 @@ fn told(kind: u8, other: Name, seq: Seq, amount: Amount, m: Message) -> CardEven
         2 => CardEvent::StartTo { other, seq, amount },
         3 => CardEvent::Deliver(m),
         6 => CardEvent::Collect,
+        8 => CardEvent::Load(amount),
         _ => CardEvent::Abort,
     }
 }
@@ -203,7 +204,7 @@ fn card_step() -> bool {
         return false;
     }
     let kind = bytes[KIND];
-    let is_known = (1 <= kind) & (kind <= 6) & !(kind == 5);
+    let is_known = (1 <= kind) & (kind <= 8) & !(kind == 5) & !(kind == 7);
     if !is_known {
         return false;
     }

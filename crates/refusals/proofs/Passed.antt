@@ -7,7 +7,7 @@ use mathlib.Core.Bool.{true, _||_, not}
 use mathlib.Core.List.{List, [], _∷_, _++_}
 use lib.Dec.{ltb, eqb}
 use native.Mathlib.Omega.{arith}
-use borrow.Author.Tests.{leb-true, ltb-true, eqb-false, eq-eqb, ne-eqb, not-false}
+use borrow.Author.Tests.{leb-true, ltb-true, ltb-false, eqb-false, eq-eqb, ne-eqb, not-false}
 use Rattle.purse.specs.declared.Name.{Name}
 use Rattle.purse.specs.declared.Amount.{Amount}
 use Rattle.purse.specs.declared.Message.{Message}
@@ -15,7 +15,7 @@ use Rattle.purse.specs.Details.{legal}
 use Rattle.purse.specs.Tests.{Test, _⇒_, first}
 use Rattle.purse.proofs.Tests.{passed}
 use Rattle.refusals.specs.declared.Head.{Head}
-use Rattle.refusals.specs.Numbers.{startTests, fromNumber, toNumber, expected, fits, deliverNumber, abortNumber, collectNumber}
+use Rattle.refusals.specs.Numbers.{startTests, fromNumber, toNumber, expected, fits, deliverNumber, abortNumber, collectNumber, raiseTests, loadNumber}
 
 module _ (h : Head) (own : Name) where
   start-passed : (other : Name) (a : Amount) (rest : List Test) → first (startTests h own other a ++ rest) ≡ 0 → (h .next .0 ≡ 4294967295 → ⊥)
@@ -65,3 +65,14 @@ module _ (h : Head) (own : Name) where
       let e14 : _≡_ {A = ℕ} _ 0 = passed (ltb 31 (own .0)) 4 _ (omega arith) e .1 in
       let l : (h .logged ≡ 0 → ⊥) = eqb-false (h .logged) 0 (passed (eqb (h .logged) 0) 14 0 (omega arith) e14 .0) in
       omega arith
+
+  raise-passed : (a : Amount) → first (raiseTests h a) ≡ 0 → h .balance .0 + a .0 ≤ h .most .0
+  raise-passed a e8 =
+      let e12 : _≡_ {A = ℕ} _ 0 = passed (not (eqb (h .status) 0)) 8 _ (omega arith) e8 .1 in
+      ltb-false _ _ (passed (ltb (h .most .0) (h .balance .0 + a .0)) 12 0 (omega arith) e12 .0)
+
+  pub load-passed : (a : Amount) → loadNumber h own a ≡ 0 → h .balance .0 + a .0 ≤ h .most .0
+  unfolding loadNumber
+  load-passed a e =
+      let e7 : _≡_ {A = ℕ} _ 0 = passed (ltb 31 (own .0)) 4 _ (omega arith) e .1 in
+      raise-passed a (passed (not (legal a)) 7 _ (omega arith) e7 .1)

@@ -12,12 +12,12 @@ use Rattle.purse.specs.declared.Amount.{Amount}
 use Rattle.purse.specs.declared.Message.{Message}
 use Rattle.purse.specs.declared.Purse.{Purse}
 use Rattle.purse.specs.Purse.{wellFormed}
-use Rattle.purse.specs.Step.{expected, fromNumber, toNumber, deliverNumber, abortNumber, collectNumber}
+use Rattle.purse.specs.Step.{expected, fromNumber, toNumber, deliverNumber, abortNumber, collectNumber, loadNumber}
 use Rattle.purse.proofs.Bools.{which, or-inr}
 use Rattle.purse.proofs.Rules.{room, can-pay, can-get}
 use Rattle.purse.proofs.Steps.{expected-status}
 use Rattle.refusals.specs.Heads.{headOf}
-use Rattle.refusals.specs.Numbers.{expected as expectedAt, fits, fromNumber as fromAt, toNumber as toAt, deliverNumber as deliverAt, abortNumber as abortAt, collectNumber as collectAt}
+use Rattle.refusals.specs.Numbers.{expected as expectedAt, fits, fromNumber as fromAt, toNumber as toAt, deliverNumber as deliverAt, abortNumber as abortAt, collectNumber as collectAt, loadNumber as loadAt}
 
 -- the same message is expected
 same-expected : (p : Purse) (m : Message) → expectedAt (headOf p) m ≡ expected p m
@@ -74,3 +74,7 @@ module _ (own : Name) (p : Purse) (w : wellFormed own p ≡ true) where
   pub same-collect : collectNumber p own ≡ collectAt (headOf p) own
   unfolding collectNumber collectAt
   same-collect = rw w
+
+  pub same-load : (a : Amount) → loadNumber p own a ≡ loadAt (headOf p) own a
+  unfolding loadNumber loadAt
+  same-load a = rw w

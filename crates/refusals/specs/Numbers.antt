@@ -63,3 +63,14 @@ abortNumber h own =
 -- "Collect: 2, 3, 4, 14, 15"
 unfoldable pub collectNumber : Head → Name → ℕ
 collectNumber h own = first (ownTests own ++ ((eqb (h .logged) 0 ⇒ 14) ∷ []))
+
+-- 8, then 12: a purse whose balance is to rise by an amount must be idle and have room for it
+abbrev pub raiseTests : Head → Amount → List Test
+raiseTests h a =
+    (not (eqb (h .status) idle) ⇒ 8)
+    ∷ (ltb (h .most .0) (h .balance .0 + a .0) ⇒ 12)
+    ∷ []
+
+-- "load 2, 3, 4, 7, 8, 12" (02, A5)
+unfoldable pub loadNumber : Head → Name → Amount → ℕ
+loadNumber h own a = first (ownTests own ++ ((not (legal a) ⇒ 7) ∷ raiseTests h a))

@@ -1,4 +1,4 @@
-// When a card refuses: the head of a record, and the tests of each step in document 01's order.
+// When a card refuses: the head of a record, and the tests of each step in the documents' order.
 use purse::Amount;
 use purse::Details;
 use purse::Seq;

@@ -1,4 +1,4 @@
-// The number that refuses a step behind the test of the record, or 0: its tests one by one, top to bottom, in document 01's order.
+// The number that refuses a step behind the test of the record, or 0: its tests one by one, top to bottom, in the documents' order.
 // They read the head of the record alone.
 use crate::Head;
 use purse::Amount;
@@ -6,9 +6,12 @@ use purse::Message;
 use purse::Name;
 use purse::Purse;
 use purse::tested;
+ghost use Prim.Native.Nat.{_+_};
 ghost use mathlib.Core.Path.{_≡_};
+ghost use lib.Dec.{ltb};
 ghost use Rattle.purse.specs.Details.{legal};
-ghost use Rattle.refusals.specs.Numbers.{startNumber, fromNumber, toNumber, expected, fits, deliverNumber, abortNumber, collectNumber};
+ghost use Rattle.purse.specs.Tests.{walked};
+ghost use Rattle.refusals.specs.Numbers.{startNumber, fromNumber, toNumber, expected, fits, deliverNumber, abortNumber, collectNumber, raiseTests, loadNumber};
 
 // An amount from 1 to the ceiling.
 pub fn is_legal(a: Amount) -> bool
@@ -37,14 +40,21 @@ pub fn from_number(h: Head, own: Name, other: Name, amount: Amount) -> u8
     tested(n, h.balance.0 < amount.0, 11)
 }
 
+// Whether the balance would rise above the ceiling: the sum is exact.
+fn is_above(h: Head, amount: Amount) -> bool
+    ensures { λ r. ⌜ r ≡ ltb (h .most .0) (h .balance .0 + amount .0) ⌝ }
+{
+    let most = h.most.0 as u64;
+    let after = h.balance.0 as u64 + amount.0 as u64;
+    most < after
+}
+
 // A start-to: last, the ceiling.
 pub fn to_number(h: Head, own: Name, other: Name, amount: Amount) -> u8
     ensures { λ r. ⌜ r ≡ toNumber h own other amount ⌝ }
 {
     let n = start_number(h, own, other, amount);
-    let most = h.most.0 as u64;
-    let after = h.balance.0 as u64 + amount.0 as u64;
-    tested(n, most < after, 12)
+    tested(n, is_above(h, amount), 12)
 }
 
 // The message that the purse waits for: request in epr, value in epv, acknowledge in epa, with equal details.
@@ -97,4 +107,20 @@ pub fn collect_number(h: Head, own: Name) -> u8
 {
     let n = tested(0, Name::LAST < own.0, 4);
     tested(n, h.logged == 0, 14)
+}
+
+// Behind other tests: the purse is idle, and its balance may rise by the amount.
+fn raise_number(found: u8, h: Head, amount: Amount) -> u8
+    ensures { λ r. ⌜ r ≡ walked found (raiseTests h amount) ⌝ }
+{
+    let n = tested(found, !(h.status == 0), 8);
+    tested(n, is_above(h, amount), 12)
+}
+
+pub fn load_number(h: Head, own: Name, amount: Amount) -> u8
+    ensures { λ r. ⌜ r ≡ loadNumber h own amount ⌝ }
+{
+    let n = tested(0, Name::LAST < own.0, 4);
+    let n = tested(n, !is_legal(amount), 7);
+    raise_number(n, h, amount)
 }

@@ -8,11 +8,11 @@ use Rattle.purse.specs.declared.Amount.{Amount}
 use Rattle.purse.specs.declared.Details.{Details}
 use Rattle.purse.specs.declared.Message.{Message}
 use Rattle.purse.specs.declared.CardEvent.{CardEvent}
-use Rattle.purse.specs.declared.CardEvent.the-variants.{StartFrom, StartTo, Deliver, Abort, Collect}
+use Rattle.purse.specs.declared.CardEvent.the-variants.{StartFrom, StartTo, Deliver, Abort, Collect, Load}
 use Rattle.purse.specs.Details.{request, value, acknowledge, zeroDetails, zeroMessage}
 use Rattle.purse.specs.Purse.{idle, epr, epv, epa}
 use Rattle.refusals.specs.declared.Head.{Head}
-use Rattle.refusals.specs.Numbers.{fromNumber, toNumber, deliverNumber, abortNumber, collectNumber}
+use Rattle.refusals.specs.Numbers.{fromNumber, toNumber, deliverNumber, abortNumber, collectNumber, loadNumber}
 use Rattle.turns.specs.declared.LogChange.{LogChange}
 use Rattle.turns.specs.declared.LogChange.the-variants.{Nothing, Append, OldestOut}
 use Rattle.turns.specs.declared.Turned.{Turned}
@@ -141,9 +141,26 @@ takenAt h =
 unfoldable pub turnCollect : Head → Name → Turned
 turnCollect h own = unlessAt (collectNumber h own) h (takenAt h)
 
+-- the balance higher by an amount
+abbrev pub raisedAt : Amount → Head → Head
+raisedAt a h =
+    record {
+      balance = record { 0 = h .balance .0 + a .0 };
+      next = h .next;
+      details = h .details;
+      status = h .status;
+      logged = h .logged;
+      most = h .most;
+    }
+
+-- "Kind 8 loads an idle purse with an amount"
+unfoldable pub turnLoad : Head → Name → Amount → Turned
+turnLoad h own a = unlessAt (loadNumber h own a) h (doneAt (raisedAt a h) Nothing zeroMessage)
+
 abbrev pub turnBy : Head → Name → CardEvent → Turned
 turnBy h own (StartFrom other s a) = turnFrom h own other s a
 turnBy h own (StartTo other s a) = turnTo h own other s a
 turnBy h own (Deliver m) = turnDeliver h own m
 turnBy h own Abort = turnAbort h own
 turnBy h own Collect = turnCollect h own
+turnBy h own (Load a) = turnLoad h own a

@@ -10,6 +10,7 @@ mod done; // done.rt: refused or done, and the purse idle again
 mod starts; // starts.rt: start-from and start-to
 mod delivery; // delivery.rt: a message
 mod ends; // ends.rt: abort and collect
+mod loads; // loads.rt: load
 
 // What becomes of the exception log: nothing; the running details appended; the oldest entry out, the later ones one place down.
 pub enum LogChange {
@@ -40,5 +41,6 @@ pub fn turn(head: Head, own: Name, event: CardEvent) -> Turned
         CardEvent::Deliver(m) => delivery::deliver(head, own, m),
         CardEvent::Abort => ends::abort(head, own),
         CardEvent::Collect => ends::collect(head, own),
+        CardEvent::Load(amount) => loads::load(head, own, amount),
     }
 }

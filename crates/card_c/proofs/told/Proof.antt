@@ -1,4 +1,4 @@
--- Each arm of the match is the same arm of the definition; the arms 0, 3, 5 and the numbers from 7 on are its last. Assumes nothing.
+-- Each arm of the match is the same arm of the definition; the arms 0, 3, 5, 7 and the numbers from 9 on are its last. Assumes nothing.
 use mathlib.Core.Path.{_≡_}
 use lib.Dec.{eqb}
 use mathlib.Core.Bool.{false}
@@ -13,13 +13,13 @@ use Rattle.card_c.specs.Order.{toldOf}
 use Rattle.card_c.proofs.told.Statement.{statement}
 use Rattle.card_c.proofs.told.Tie as tie
 
-delivers : (o : Order) → eqb (o .kind) 1 ≡ false → eqb (o .kind) 2 ≡ false → eqb (o .kind) 4 ≡ false → eqb (o .kind) 6 ≡ false → Deliver (o .message) ≡ toldOf o
+delivers : (o : Order) → eqb (o .kind) 1 ≡ false → eqb (o .kind) 2 ≡ false → eqb (o .kind) 4 ≡ false → eqb (o .kind) 6 ≡ false → eqb (o .kind) 8 ≡ false → Deliver (o .message) ≡ toldOf o
 unfolding toldOf
-delivers o a b c d = simp (a, b, c, d)
+delivers o a b c d e = simp (a, b, c, d, e)
 
-numbered : (o : Order) → OneOf (0 ∷ 3 ∷ 5 ∷ []) (o .kind) → Deliver (o .message) ≡ toldOf o
+numbered : (o : Order) → OneOf (0 ∷ 3 ∷ 5 ∷ 7 ∷ []) (o .kind) → Deliver (o .message) ≡ toldOf o
 unfolding toldOf
-numbered o h = elim h [ inl a ↦ simp a | inr b ↦ elim b [ inl a ↦ simp a | inr b ↦ simp b ] ]
+numbered o h = elim h [ inl a ↦ simp a | inr b ↦ elim b [ inl a ↦ simp a | inr b ↦ elim b [ inl a ↦ simp a | inr b ↦ simp b ] ] ]
 
 returns : tie.Need-returns
 unfolding toldOf
@@ -38,12 +38,16 @@ unfolding toldOf
 returns-4 c = simp (c .match .keys4)
 
 returns-5 : tie.Need-returns-5
-returns-5 c = numbered (c .before .before .before .before .before .args .order) (c .match .keys5)
+unfolding toldOf
+returns-5 c = simp (c .match .keys5)
 
 returns-6 : tie.Need-returns-6
-returns-6 c =
+returns-6 c = numbered (c .before .before .before .before .before .args .order) (c .match .keys6)
+
+returns-7 : tie.Need-returns-7
+returns-7 c =
     let o : Order = c .before .before .before .before .before .args .order in
-    delivers o (ne-eqb (o .kind) 1 (omega arith)) (ne-eqb (o .kind) 2 (omega arith)) (ne-eqb (o .kind) 4 (omega arith)) (ne-eqb (o .kind) 6 (omega arith))
+    delivers o (ne-eqb (o .kind) 1 (omega arith)) (ne-eqb (o .kind) 2 (omega arith)) (ne-eqb (o .kind) 4 (omega arith)) (ne-eqb (o .kind) 6 (omega arith)) (ne-eqb (o .kind) 8 (omega arith))
 
 pub told-spec : {M : Type 1} → statement M
-told-spec = tie.close (tie.spec returns returns-2 returns-3 returns-4 returns-5 returns-6)
+told-spec = tie.close (tie.spec returns returns-2 returns-3 returns-4 returns-5 returns-6 returns-7)

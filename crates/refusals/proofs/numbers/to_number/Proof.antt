@@ -1,4 +1,4 @@
--- `refusals::numbers::to_number` meets its contract: one test more than `start_number` (`more`); the sum is taken in wider numbers, so it does not wrap. Assumes nothing.
+-- `refusals::numbers::to_number` meets its contract: one test more than `start_number` (`more`). Assumes nothing.
 use mathlib.Core.Path.{refl}
 use Rattle.purse.proofs.Tests.{more}
 use Rattle.refusals.specs.Numbers.{startTests, startNumber, toNumber}
@@ -11,17 +11,8 @@ use Rattle.refusals.proofs.numbers.to_number.Tie as tie
 start-number-requires : tie.Need-start-number-requires
 start-number-requires c κs = search needs
 
-cast-most : tie.Need-cast-most
-cast-most c = search needs
-
-cast-after : tie.Need-cast-after
-cast-after c = search needs
-
-cast-after-2 : tie.Need-cast-after-2
-cast-after-2 c = search needs
-
-add-after : tie.Need-add-after
-add-after c = search needs
+is-above-requires : tie.Need-is-above-requires
+is-above-requires c κs = search needs
 
 tested-requires : tie.Need-tested-requires
 tested-requires c κs = search needs
@@ -29,22 +20,14 @@ tested-requires c κs = search needs
 returns : tie.Need-returns
 unfolding startNumber toNumber
 returns c =
-    let start = c .before .before .before .before .before in
+    let start = c .before .before .before in
     let h = start .args .h in
     let amount = start .args .amount in
     more
     (startTests h (start .args .own) (start .args .other) amount)
     (ltb (h .most .0) (h .balance .0 + amount .0)) 12
-    refl (c .before .before .before .before .start-number .ensures) (c .tested .ensures)
+    refl (c .before .before .start-number .ensures) (rw (c .before .is-above .ensures) at (c .tested .ensures))
 
 pub to-number-spec : {M : Type 1} → statement M
 to-number-spec =
-    tie.close
-    (tie.spec
-    start-number-requires
-    cast-most
-    cast-after
-    cast-after-2
-    add-after
-    tested-requires
-    returns)
+    tie.close (tie.spec start-number-requires is-above-requires tested-requires returns)

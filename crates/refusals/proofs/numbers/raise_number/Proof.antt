@@ -1,0 +1,20 @@
+-- `refusals::numbers::raise_number` meets its contract: two tests behind those before them. Assumes nothing.
+use borrow.Author.Needs.{needs}
+use Rattle.refusals.proofs.numbers.raise_number.Statement.{statement}
+use Rattle.refusals.proofs.numbers.raise_number.Tie as tie
+
+tested-requires : tie.Need-tested-requires
+tested-requires c κs = search needs
+
+is-above-requires : tie.Need-is-above-requires
+is-above-requires c κs = search needs
+
+tested-requires-2 : tie.Need-tested-requires-2
+tested-requires-2 c κs = search needs
+
+returns : tie.Need-returns
+returns c = rw (c .tested2 .ensures, c .before .is-above .ensures, c .before .before .tested .ensures)
+
+pub raise-number-spec : {M : Type 1} → statement M
+raise-number-spec =
+    tie.close (tie.spec tested-requires is-above-requires tested-requires-2 returns)
