@@ -186,17 +186,20 @@ module _ (c : Deed) (vs : List Val) (is : Is C.the-row c vs) where
   pub deed-purse : Is T.the-row (c .purse) (pval (c .purse) ∷ [])
   deed-purse = LL.owed C.the-type C′.the-laws c vs is .1 .0
 
+  pub deed-purses : c .purses < 2 ^ 8
+  deed-purses = LL.owed C.the-type C′.the-laws c vs is .1 .1 .0 .1
+
   pub deed-message : Is M.the-row (c .message) (mval (c .message) ∷ [])
-  deed-message = LL.owed C.the-type C′.the-laws c vs is .1 .1 .0
+  deed-message = LL.owed C.the-type C′.the-laws c vs is .1 .1 .1 .0
 
   pub deed-messages : c .messages < 2 ^ 16
-  deed-messages = LL.owed C.the-type C′.the-laws c vs is .1 .1 .1 .0 .1
+  deed-messages = LL.owed C.the-type C′.the-laws c vs is .1 .1 .1 .1 .0 .1
 
   pub deed-entry : Is X.the-row (c .entry) (xval (c .entry) ∷ [])
-  deed-entry = LL.owed C.the-type C′.the-laws c vs is .1 .1 .1 .1 .0
+  deed-entry = LL.owed C.the-type C′.the-laws c vs is .1 .1 .1 .1 .1 .0
 
   pub deed-entries : c .entries < 2 ^ 16
-  deed-entries = LL.owed C.the-type C′.the-laws c vs is .1 .1 .1 .1 .1 .0 .1
+  deed-entries = LL.owed C.the-type C′.the-laws c vs is .1 .1 .1 .1 .1 .1 .0 .1
 
   pub deed-place : c .place < 2 ^ 64
-  deed-place = LL.owed C.the-type C′.the-laws c vs is .1 .1 .1 .1 .1 .1 .1 .0 .1
+  deed-place = LL.owed C.the-type C′.the-laws c vs is .1 .1 .1 .1 .1 .1 .1 .1 .0 .1

@@ -1,6 +1,6 @@
 -- `walk_desk::written_at` meets its contract: a walk of its MIR, by hand. The desk's borrow is opened at the first statement and stays open to the end. One message
--- behind the messages and one entry behind the entries are read through it; what `done_by` says of them, and of what is seen, is stored at those places, with both
--- counts; of a loss the messages are taken out, moved down and put back. Assumes nothing.
+-- behind the messages and one entry behind the entries are read through it; what `done_by` says of them, and of what is seen, is stored at those places, with the
+-- three counts; of a loss the messages are taken out, moved down and put back. Assumes nothing.
 use mathlib.Core.Path.{_≡_, refl, sym, ap, subst, _∙_}
 use mathlib.Core.Bool.{Bool, true, false}
 use Prim.Native.Nat.{ℕ, _<_}
@@ -56,7 +56,7 @@ use Rattle.deeds.specs.Deeds.{deedBy, deedAt, writtenOn, deskAfter}
 use Rattle.asks.proofs.Looks.{within-less}
 use Rattle.walk_steps.proofs.Lent.{gone, if-test, if-false, opens-ref, shuts-ref, OpenRef, place-is}
 use Rattle.walk_steps.proofs.Parts.{elem, unraw}
-use Rattle.walk_desk.proofs.Structs.{pval, mval, xval, eval, dval, sval, cval, msize, xsize, message-fits, entry-fits, mvals, xvals, mvals-at, xvals-at, mvals-set, xvals-set, parts, purses-fit, ether-is, archive-is, count-fits, mvals-long, message-is, ether-written, entries-fit, xvals-long, entry-is, archive-written, desk-is, deed-message, deed-messages, deed-entry, deed-entries, deed-place}
+use Rattle.walk_desk.proofs.Structs.{pval, mval, xval, eval, dval, sval, cval, msize, xsize, message-fits, entry-fits, mvals, xvals, mvals-at, xvals-at, mvals-set, xvals-set, parts, ether-is, archive-is, count-fits, mvals-long, message-is, ether-written, entries-fit, xvals-long, entry-is, archive-written, desk-is, deed-purses, deed-message, deed-messages, deed-entry, deed-entries, deed-place}
 use Rattle.walk_desk.proofs.Calls.{Said, BehindC, DoneByC, LostC, calls-behind, calls-done-by, calls-lost}
 use Rattle.purse.proofs.Purse as T
 use Rattle.purse.proofs.Purse.Laws as T′
@@ -145,9 +145,6 @@ module _ {M₁ : Type 1} (𝓤 : URA M₁) (H : Heap 𝓤) (A : Atoms 𝓤) (W :
       nothing ! $ move ! (2 ∷ 0 ∷ []) $ fjoin ! $ nothing ! $ fjoin ! $ nothing ! $ fjoin ! $ move ! (1 ∷ 0 ∷ []) $ fjoin ! $ frame ! $ owned ! C.the-row (Is C.the-row) (LL.makes C.the-type C′.the-plain 𝓤 H A) c _ is $ done !
 
   -- the places behind the messages and the entries, and what stands there
-  abbrev u : ℕ
-  u = d .purses
-
   abbrev n : ℕ
   n = d .ether .count
 
@@ -216,22 +213,22 @@ module _ {M₁ : Type 1} (𝓤 : URA M₁) (H : Heap 𝓤) (A : Atoms 𝓤) (W :
           d₁ = writtenOn d c
 
           d₁-is : Is D.the-row d₁ (dval d₁ ∷ [])
-          d₁-is = desk-is u (d₁ .ether) (d₁ .archive) (purses-fit d _ was) (ether-written (d .ether) _ e-was i (c .messages) (c .message) (deed-message c _ c-so) (deed-messages c _ c-so))
+          d₁-is = desk-is (c .purses) (d₁ .ether) (d₁ .archive) (deed-purses c _ c-so) (ether-written (d .ether) _ e-was i (c .messages) (c .message) (deed-message c _ c-so) (deed-messages c _ c-so))
               (archive-written (d .archive) _ (archive-is d _ was) h (c .entries) (c .entry) (deed-entry c _ c-so) (deed-entries c _ c-so))
 
           module _ (v₉ v₁₀ v₁₁ v₁₃ v₁₄ v₁₅ v₁₇ v₁₈ v₁₉ v₂₀ : Val) where
             -- the messages are put back without the one lost: the borrow is shut, and the locals are freed
             leaves-lost : (e : Ether) (v₂₂ v₂₃ : Val) → Is E.the-row e (eval e ∷ []) → c .loses ≡ true → e ≡ takenOut (d₁ .ether) (c .place) .ether
-                → Sq W (Cx (cell (dval (withEther d₁ e))) opened (froom C′.mir l₀ 0) (fat fullShare (tyInt w64) l₅ 0 (vint w64 i)) (fat fullShare (tyInt w64) l₆ 0 (vint w64 h)) (fat fullShare C′.mir l₇ 0 (cval c)) (fat fullShare (tyInt w16) l₈ 0 (vint w16 k)) (fat fullShare (tyInt w64) l₉ 0 v₉) (fat fullShare tyPtr l₁₀ 0 v₁₀) (fat fullShare tyPtr l₁₁ 0 v₁₁) (fat fullShare M′.mir l₁₂ 0 (mval last)) (fat fullShare (tyInt w64) l₁₃ 0 v₁₃) (fat fullShare tyPtr l₁₄ 0 v₁₄) (fat fullShare tyPtr l₁₅ 0 v₁₅) (fat fullShare X′.mir l₁₆ 0 (xval x)) (fat fullShare tyPtr l₁₇ 0 v₁₇) (fat fullShare tyPtr l₁₈ 0 v₁₈) (fat fullShare tyPtr l₁₉ 0 v₁₉) (fat fullShare tyPtr l₂₀ 0 v₂₀) (fat fullShare tyBool l₂₁ 0 (vbool (c .loses))) (fat fullShare E′.mir l₂₂ 0 v₂₂) (fat fullShare E′.mir l₂₃ 0 v₂₃)) (runs C₁ Λ E₁ mir.t-26 (atRet E₁ Post))
+                → Sq W (Cx (cell (dval (withEther d₁ e))) opened (froom C′.mir l₀ 0) (fat fullShare (tyInt w64) l₅ 0 (vint w64 i)) (fat fullShare (tyInt w64) l₆ 0 (vint w64 h)) (fat fullShare C′.mir l₇ 0 (cval c)) (fat fullShare (tyInt w16) l₈ 0 (vint w16 k)) (fat fullShare (tyInt w64) l₉ 0 v₉) (fat fullShare tyPtr l₁₀ 0 v₁₀) (fat fullShare tyPtr l₁₁ 0 v₁₁) (fat fullShare M′.mir l₁₂ 0 (mval last)) (fat fullShare (tyInt w64) l₁₃ 0 v₁₃) (fat fullShare tyPtr l₁₄ 0 v₁₄) (fat fullShare tyPtr l₁₅ 0 v₁₅) (fat fullShare X′.mir l₁₆ 0 (xval x)) (fat fullShare tyPtr l₁₇ 0 v₁₇) (fat fullShare tyPtr l₁₈ 0 v₁₈) (fat fullShare tyPtr l₁₉ 0 v₁₉) (fat fullShare tyPtr l₂₀ 0 v₂₀) (fat fullShare tyBool l₂₁ 0 (vbool (c .loses))) (fat fullShare E′.mir l₂₂ 0 v₂₂) (fat fullShare E′.mir l₂₃ 0 v₂₃)) (runs C₁ Λ E₁ mir.t-27 (atRet E₁ Post))
             leaves-lost e v₂₂ v₂₃ e-is z is =
                 assigns ! (of-opd ! (load ! (from ! (stop !)) (look ! 18 refl))) (from ! (stop !)) (init ! 4 refl (LL.lawful C.the-type C′.the-laws 𝓤 H A W .typed c _ c-so .0)) $
-                shuts-ref ! tt D.the-row (named 0) (LL.makes D.the-type D′.the-plain 𝓤 H A) d (withEther d₁ e) (dval (withEther d₁ e) ∷ []) b o (desk-is u e (d₁ .archive) (purses-fit d _ was) e-is (archive-is d₁ _ d₁-is)) $ returns ! (look ! 4 refl) $
+                shuts-ref ! tt D.the-row (named 0) (LL.makes D.the-type D′.the-plain 𝓤 H A) d (withEther d₁ e) (dval (withEther d₁ e) ∷ []) b o (desk-is (c .purses) e (d₁ .archive) (deed-purses c _ c-so) e-is (archive-is d₁ _ d₁-is)) $ returns ! (look ! 4 refl) $
                 move ! (4 ∷ 5 ∷ 6 ∷ 7 ∷ 8 ∷ 9 ∷ 10 ∷ 11 ∷ 12 ∷ 13 ∷ 14 ∷ 15 ∷ 16 ∷ 17 ∷ 18 ∷ 19 ∷ 20 ∷ 21 ∷ 22 ∷ 23 ∷ 24 ∷ 25 ∷ 26 ∷ 27 ∷ 28 ∷ 29 ∷ 30 ∷ 31 ∷ 32 ∷ 33 ∷ 34 ∷ 35 ∷ 36 ∷ 37 ∷ 38 ∷ 39 ∷ 40 ∷ 41 ∷ 42 ∷ 43 ∷ 44 ∷ 45 ∷ 46 ∷ 47 ∷ 48 ∷ 49 ∷ 50 ∷ 51 ∷ []) $
                 gone ! $ gone ! $ gone ! $ gone ! $ gone ! $ gone ! $ gone ! $ gone ! $ gone ! $ gone ! $ gone ! $ gone ! $ gone ! $ gone ! $ gone ! $ gone ! $ gone ! $ gone ! $ gone ! $ gone ! $ gone ! $ gone ! $ gone ! $ gone ! $ free0 ! $
                 by ! (exits c (withEther d₁ e) c-so c-is (lost-so d c e z is))
 
             -- nothing is lost
-            leaves : c .loses ≡ false → Sq W (Cx (cell (dval d₁)) opened (froom C′.mir l₀ 0) (fat fullShare (tyInt w64) l₅ 0 (vint w64 i)) (fat fullShare (tyInt w64) l₆ 0 (vint w64 h)) (fat fullShare C′.mir l₇ 0 (cval c)) (fat fullShare (tyInt w16) l₈ 0 (vint w16 k)) (fat fullShare (tyInt w64) l₉ 0 v₉) (fat fullShare tyPtr l₁₀ 0 v₁₀) (fat fullShare tyPtr l₁₁ 0 v₁₁) (fat fullShare M′.mir l₁₂ 0 (mval last)) (fat fullShare (tyInt w64) l₁₃ 0 v₁₃) (fat fullShare tyPtr l₁₄ 0 v₁₄) (fat fullShare tyPtr l₁₅ 0 v₁₅) (fat fullShare X′.mir l₁₆ 0 (xval x)) (fat fullShare tyPtr l₁₇ 0 v₁₇) (fat fullShare tyPtr l₁₈ 0 v₁₈) (fat fullShare tyPtr l₁₉ 0 v₁₉) (fat fullShare tyPtr l₂₀ 0 v₂₀) (fat fullShare tyBool l₂₁ 0 (vbool (c .loses))) (froom E′.mir l₂₂ 0) (froom E′.mir l₂₃ 0)) (runs C₁ Λ E₁ mir.t-26 (atRet E₁ Post))
+            leaves : c .loses ≡ false → Sq W (Cx (cell (dval d₁)) opened (froom C′.mir l₀ 0) (fat fullShare (tyInt w64) l₅ 0 (vint w64 i)) (fat fullShare (tyInt w64) l₆ 0 (vint w64 h)) (fat fullShare C′.mir l₇ 0 (cval c)) (fat fullShare (tyInt w16) l₈ 0 (vint w16 k)) (fat fullShare (tyInt w64) l₉ 0 v₉) (fat fullShare tyPtr l₁₀ 0 v₁₀) (fat fullShare tyPtr l₁₁ 0 v₁₁) (fat fullShare M′.mir l₁₂ 0 (mval last)) (fat fullShare (tyInt w64) l₁₃ 0 v₁₃) (fat fullShare tyPtr l₁₄ 0 v₁₄) (fat fullShare tyPtr l₁₅ 0 v₁₅) (fat fullShare X′.mir l₁₆ 0 (xval x)) (fat fullShare tyPtr l₁₇ 0 v₁₇) (fat fullShare tyPtr l₁₈ 0 v₁₈) (fat fullShare tyPtr l₁₉ 0 v₁₉) (fat fullShare tyPtr l₂₀ 0 v₂₀) (fat fullShare tyBool l₂₁ 0 (vbool (c .loses))) (froom E′.mir l₂₂ 0) (froom E′.mir l₂₃ 0)) (runs C₁ Λ E₁ mir.t-27 (atRet E₁ Post))
             leaves z =
                 assigns ! (of-opd ! (load ! (from ! (stop !)) (look ! 18 refl))) (from ! (stop !)) (init ! 4 refl (LL.lawful C.the-type C′.the-laws 𝓤 H A W .typed c _ c-so .0)) $
                 shuts-ref ! tt D.the-row (named 0) (LL.makes D.the-type D′.the-plain 𝓤 H A) d d₁ (dval d₁ ∷ []) b o d₁-is $ returns ! (look ! 4 refl) $
@@ -240,31 +237,31 @@ module _ {M₁ : Type 1} (𝓤 : URA M₁) (H : Heap 𝓤) (A : Atoms 𝓤) (W :
                 by ! (exits c d₁ c-so c-is (kept-so d c z))
 
             -- the desk is written: of a loss, the messages are moved
-            settles : Sq W (Cx (cell (dval d₁)) opened (froom C′.mir l₀ 0) (fat fullShare (tyInt w64) l₅ 0 (vint w64 i)) (fat fullShare (tyInt w64) l₆ 0 (vint w64 h)) (fat fullShare C′.mir l₇ 0 (cval c)) (fat fullShare (tyInt w16) l₈ 0 (vint w16 k)) (fat fullShare (tyInt w64) l₉ 0 v₉) (fat fullShare tyPtr l₁₀ 0 v₁₀) (fat fullShare tyPtr l₁₁ 0 v₁₁) (fat fullShare M′.mir l₁₂ 0 (mval last)) (fat fullShare (tyInt w64) l₁₃ 0 v₁₃) (fat fullShare tyPtr l₁₄ 0 v₁₄) (fat fullShare tyPtr l₁₅ 0 v₁₅) (fat fullShare X′.mir l₁₆ 0 (xval x)) (fat fullShare tyPtr l₁₇ 0 v₁₇) (fat fullShare tyPtr l₁₈ 0 v₁₈) (fat fullShare tyPtr l₁₉ 0 v₁₉) (fat fullShare tyPtr l₂₀ 0 v₂₀) (froom tyBool l₂₁ 0) (froom E′.mir l₂₂ 0) (froom E′.mir l₂₃ 0)) (runs C₁ Λ E₁ mir.t-24 (atRet E₁ Post))
+            settles : Sq W (Cx (cell (dval d₁)) opened (froom C′.mir l₀ 0) (fat fullShare (tyInt w64) l₅ 0 (vint w64 i)) (fat fullShare (tyInt w64) l₆ 0 (vint w64 h)) (fat fullShare C′.mir l₇ 0 (cval c)) (fat fullShare (tyInt w16) l₈ 0 (vint w16 k)) (fat fullShare (tyInt w64) l₉ 0 v₉) (fat fullShare tyPtr l₁₀ 0 v₁₀) (fat fullShare tyPtr l₁₁ 0 v₁₁) (fat fullShare M′.mir l₁₂ 0 (mval last)) (fat fullShare (tyInt w64) l₁₃ 0 v₁₃) (fat fullShare tyPtr l₁₄ 0 v₁₄) (fat fullShare tyPtr l₁₅ 0 v₁₅) (fat fullShare X′.mir l₁₆ 0 (xval x)) (fat fullShare tyPtr l₁₇ 0 v₁₇) (fat fullShare tyPtr l₁₈ 0 v₁₈) (fat fullShare tyPtr l₁₉ 0 v₁₉) (fat fullShare tyPtr l₂₀ 0 v₂₀) (froom tyBool l₂₁ 0) (froom E′.mir l₂₂ 0) (froom E′.mir l₂₃ 0)) (runs C₁ Λ E₁ mir.t-25 (atRet E₁ Post))
             settles =
-                assigns ! (of-opd ! (load ! (from ! (fld ! refl (stop !))) (look-in ! 18 (sub ! 6 refl (whole !))))) (from ! (stop !)) (init ! 46 refl (tt, tt)) $
+                assigns ! (of-opd ! (load ! (from ! (fld ! refl (stop !))) (look-in ! 18 (sub ! 7 refl (whole !))))) (from ! (stop !)) (init ! 46 refl (tt, tt)) $
                 if-test ! (load ! (from ! (stop !)) (look ! 46 refl))
                 (λ z. assigns ! (of-opd ! (load ! (from ! (hop ! (look ! 6 refl) (fld ! refl (stop !)))) (look-in ! 0 (unraw ! E′.mir (sub ! 1 refl (whole !)))))) (from ! (stop !)) (init ! 50 refl (LL.lawful E.the-type E′.the-laws 𝓤 H A W .typed (d₁ .ether) _ (ether-is d₁ _ d₁-is) .0)) $
                 calls-lost ! at-mem run fm known-lost (d₁ .ether) (c .place) (ether-is d₁ _ d₁-is) (deed-place c _ c-so)
-                (and-then ! (load ! (from ! (stop !)) (look ! 51 refl)) (and-then ! (load ! (from ! (fld ! refl (stop !))) (look-in ! 19 (sub ! 7 refl (whole !)))) (no-more !))) (λ v e e-is is.
+                (and-then ! (load ! (from ! (stop !)) (look ! 51 refl)) (and-then ! (load ! (from ! (fld ! refl (stop !))) (look-in ! 19 (sub ! 8 refl (whole !)))) (no-more !))) (λ v e e-is is.
                 land ! (from ! (stop !)) (init ! 48 refl (LL.lawful E.the-type E′.the-laws 𝓤 H A W .typed e _ e-is .0)) $ rewrite ! 48 (λ (y : Val). ‵ (fat fullShare E′.mir l₂₂ 0 y)) (ap only (LL.tells E.the-type E′.the-laws e _ e-is)) refl $
                 assigns-last ! (of-opd ! (load ! (from ! (stop !)) (look ! 48 refl))) (from ! (hop ! (look ! 6 refl) (fld ! refl (stop !)))) (store-in ! 0 (unraw ! E′.mir (sub ! 1 refl (whole !))) (LL.lawful E.the-type E′.the-laws 𝓤 H A W .typed e _ (subst (Is E.the-row e) (LL.tells E.the-type E′.the-laws e _ e-is) e-is) .0)) $
-                exec ! C₁ Λ E₁ mir.t-26 (atRet E₁ Post) $ leaves-lost e _ _ (subst (Is E.the-row e) (LL.tells E.the-type E′.the-laws e _ e-is) e-is) (is-true _ z) is))
+                exec ! C₁ Λ E₁ mir.t-27 (atRet E₁ Post) $ leaves-lost e _ _ (subst (Is E.the-row e) (LL.tells E.the-type E′.the-laws e _ e-is) e-is) (is-true _ z) is))
                 (λ z. leaves (if-false _ z))
 
           -- the message stands there: then the entry
-          stores-entry : (v₉ v₁₀ v₁₁ v₁₃ v₁₄ v₁₅ v₁₇ v₁₈ : Val) → Sq W (Cx (cell (parts u (set ms i (mval (c .message))) (c .messages) xs k)) opened (froom C′.mir l₀ 0) (fat fullShare (tyInt w64) l₅ 0 (vint w64 i)) (fat fullShare (tyInt w64) l₆ 0 (vint w64 h)) (fat fullShare C′.mir l₇ 0 (cval c)) (fat fullShare (tyInt w16) l₈ 0 (vint w16 k)) (fat fullShare (tyInt w64) l₉ 0 v₉) (fat fullShare tyPtr l₁₀ 0 v₁₀) (fat fullShare tyPtr l₁₁ 0 v₁₁) (fat fullShare M′.mir l₁₂ 0 (mval last)) (fat fullShare (tyInt w64) l₁₃ 0 v₁₃) (fat fullShare tyPtr l₁₄ 0 v₁₄) (fat fullShare tyPtr l₁₅ 0 v₁₅) (fat fullShare X′.mir l₁₆ 0 (xval x)) (fat fullShare tyPtr l₁₇ 0 v₁₇) (fat fullShare tyPtr l₁₈ 0 v₁₈) (froom tyPtr l₁₉ 0) (froom tyPtr l₂₀ 0) (froom tyBool l₂₁ 0) (froom E′.mir l₂₂ 0) (froom E′.mir l₂₃ 0)) (runs C₁ Λ E₁ mir.t-19 (atRet E₁ Post))
+          stores-entry : (v₉ v₁₀ v₁₁ v₁₃ v₁₄ v₁₅ v₁₇ v₁₈ : Val) → Sq W (Cx (cell (parts (c .purses) (set ms i (mval (c .message))) (c .messages) xs k)) opened (froom C′.mir l₀ 0) (fat fullShare (tyInt w64) l₅ 0 (vint w64 i)) (fat fullShare (tyInt w64) l₆ 0 (vint w64 h)) (fat fullShare C′.mir l₇ 0 (cval c)) (fat fullShare (tyInt w16) l₈ 0 (vint w16 k)) (fat fullShare (tyInt w64) l₉ 0 v₉) (fat fullShare tyPtr l₁₀ 0 v₁₀) (fat fullShare tyPtr l₁₁ 0 v₁₁) (fat fullShare M′.mir l₁₂ 0 (mval last)) (fat fullShare (tyInt w64) l₁₃ 0 v₁₃) (fat fullShare tyPtr l₁₄ 0 v₁₄) (fat fullShare tyPtr l₁₅ 0 v₁₅) (fat fullShare X′.mir l₁₆ 0 (xval x)) (fat fullShare tyPtr l₁₇ 0 v₁₇) (fat fullShare tyPtr l₁₈ 0 v₁₈) (froom tyPtr l₁₉ 0) (froom tyPtr l₂₀ 0) (froom tyBool l₂₁ 0) (froom E′.mir l₂₂ 0) (froom E′.mir l₂₃ 0)) (runs C₁ Λ E₁ mir.t-20 (atRet E₁ Post))
           stores-entry v₉ v₁₀ v₁₁ v₁₃ v₁₄ v₁₅ v₁₇ v₁₈ =
               assigns ! (bin ! (load ! (from ! (stop !)) (look ! 16 refl)) (lit ! tt) (record { fits = entry-fits h (within-less k) })) (from ! (stop !)) (store ! 30 refl (tt, record { fits = entry-fits h (within-less k) })) $
               assigns ! (addr ! (from ! (hop ! (look ! 6 refl) (fld ! refl (fld ! refl (stop !)))))) (from ! (stop !)) (init ! 42 refl (tt, tt)) $
               assigns ! (bin ! (load ! (from ! (stop !)) (look ! 42 refl)) (load ! (from ! (stop !)) (look ! 30 refl)) tt) (from ! (stop !)) (init ! 44 refl (tt, tt)) $
               rewrite ! 44 (λ (y : ℕ). ‵ (fat fullShare tyPtr l₂₀ 0 (vptr b y))) (sym (place-is xsize _ h)) refl $
-              assigns ! (of-opd ! (load ! (from ! (fld ! refl (stop !))) (look-in ! 18 (sub ! 4 refl (whole !))))) (from ! (hop ! (look ! 44 refl) (stop !)))
+              assigns ! (of-opd ! (load ! (from ! (fld ! refl (stop !))) (look-in ! 18 (sub ! 5 refl (whole !))))) (from ! (hop ! (look ! 44 refl) (stop !)))
               (store-in ! 0 (unraw ! X′.mir (elem ! xs h (xval zeroEntry) there-x (xvals-long (d .archive) _ (archive-is d _ was)) (sub ! 0 refl (sub ! 2 refl (whole !))))) (LL.lawful X.the-type X′.the-laws 𝓤 H A W .typed (c .entry) _ (deed-entry c _ c-so) .0)) $
-              assigns ! (of-opd ! (load ! (from ! (fld ! refl (stop !))) (look-in ! 18 (sub ! 5 refl (whole !))))) (from ! (hop ! (look ! 6 refl) (fld ! refl (fld ! refl (stop !)))))
+              assigns ! (of-opd ! (load ! (from ! (fld ! refl (stop !))) (look-in ! 18 (sub ! 6 refl (whole !))))) (from ! (hop ! (look ! 6 refl) (fld ! refl (fld ! refl (stop !)))))
               (store-in ! 0 (sub ! 1 refl (sub ! 2 refl (whole !))) (tt, record { fits = deed-entries c _ c-so })) $
-              rewrite ! 0 (λ (y : List Val). ‵ (cell (parts u y (c .messages) (set xs h (xval (c .entry))) (c .entries)))) (mvals-set (d .ether .places) i (c .message)) refl $
-              rewrite ! 0 (λ (y : List Val). ‵ (cell (parts u (mvals (set (d .ether .places) i (c .message))) (c .messages) y (c .entries)))) (xvals-set (d .archive .places) h (c .entry)) refl $
+              rewrite ! 0 (λ (y : List Val). ‵ (cell (parts (c .purses) y (c .messages) (set xs h (xval (c .entry))) (c .entries)))) (mvals-set (d .ether .places) i (c .message)) refl $
+              rewrite ! 0 (λ (y : List Val). ‵ (cell (parts (c .purses) (mvals (set (d .ether .places) i (c .message))) (c .messages) y (c .entries)))) (xvals-set (d .archive .places) h (c .entry)) refl $
               settles _ _ _ _ _ _ _ _ _ _
             where
               there-x : h < length xs
@@ -274,13 +271,15 @@ module _ {M₁ : Type 1} (𝓤 : URA M₁) (H : Heap 𝓤) (A : Atoms 𝓤) (W :
           stores : (v₉ v₁₀ v₁₁ v₁₃ v₁₄ v₁₅ : Val) → Sq W (Cx (cell (dval d)) opened (froom C′.mir l₀ 0) (fat fullShare (tyInt w64) l₅ 0 (vint w64 i)) (fat fullShare (tyInt w64) l₆ 0 (vint w64 h)) (froom C′.mir l₇ 0) (fat fullShare (tyInt w16) l₈ 0 (vint w16 k)) (fat fullShare (tyInt w64) l₉ 0 v₉) (fat fullShare tyPtr l₁₀ 0 v₁₀) (fat fullShare tyPtr l₁₁ 0 v₁₁) (fat fullShare M′.mir l₁₂ 0 (mval last)) (fat fullShare (tyInt w64) l₁₃ 0 v₁₃) (fat fullShare tyPtr l₁₄ 0 v₁₄) (fat fullShare tyPtr l₁₅ 0 v₁₅) (fat fullShare X′.mir l₁₆ 0 (xval x)) (froom tyPtr l₁₇ 0) (froom tyPtr l₁₈ 0) (froom tyPtr l₁₉ 0) (froom tyPtr l₂₀ 0) (froom tyBool l₂₁ 0) (froom E′.mir l₂₂ 0) (froom E′.mir l₂₃ 0)) (lands C₁ Λ E₁ (place 7 []) v₇ mir.t-14 (atRet E₁ Post))
           stores v₉ v₁₀ v₁₁ v₁₃ v₁₄ v₁₅ =
               land ! (from ! (stop !)) (init ! 18 refl (LL.lawful C.the-type C′.the-laws 𝓤 H A W .typed c _ c-was .0)) $ rewrite ! 18 (λ (y : Val). ‵ (fat fullShare C′.mir l₇ 0 y)) (ap only (LL.tells C.the-type C′.the-laws c _ c-was)) refl $
+              assigns ! (of-opd ! (load ! (from ! (fld ! refl (stop !))) (look-in ! 18 (sub ! 2 refl (whole !))))) (from ! (hop ! (look ! 6 refl) (fld ! refl (stop !))))
+              (store-in ! 0 (sub ! 0 refl (whole !)) (tt, record { fits = deed-purses c _ c-so })) $
               assigns ! (bin ! (load ! (from ! (stop !)) (look ! 14 refl)) (lit ! tt) (record { fits = message-fits i (within-less n) })) (from ! (stop !)) (store ! 22 refl (tt, record { fits = message-fits i (within-less n) })) $
               assigns ! (addr ! (from ! (hop ! (look ! 6 refl) (fld ! refl (fld ! refl (stop !)))))) (from ! (stop !)) (init ! 38 refl (tt, tt)) $
               assigns ! (bin ! (load ! (from ! (stop !)) (look ! 38 refl)) (load ! (from ! (stop !)) (look ! 22 refl)) tt) (from ! (stop !)) (init ! 40 refl (tt, tt)) $
               rewrite ! 40 (λ (y : ℕ). ‵ (fat fullShare tyPtr l₁₈ 0 (vptr b y))) (sym (place-is msize _ i)) refl $
-              assigns ! (of-opd ! (load ! (from ! (fld ! refl (stop !))) (look-in ! 18 (sub ! 2 refl (whole !))))) (from ! (hop ! (look ! 40 refl) (stop !)))
+              assigns ! (of-opd ! (load ! (from ! (fld ! refl (stop !))) (look-in ! 18 (sub ! 3 refl (whole !))))) (from ! (hop ! (look ! 40 refl) (stop !)))
               (store-in ! 0 (unraw ! M′.mir (elem ! ms i (mval zeroMessage) there-m (mvals-long (d .ether) _ e-was) (sub ! 0 refl (sub ! 1 refl (whole !))))) (LL.lawful M.the-type M′.the-laws 𝓤 H A W .typed (c .message) _ (deed-message c _ c-so) .0)) $
-              assigns ! (of-opd ! (load ! (from ! (fld ! refl (stop !))) (look-in ! 18 (sub ! 3 refl (whole !))))) (from ! (hop ! (look ! 6 refl) (fld ! refl (fld ! refl (stop !)))))
+              assigns ! (of-opd ! (load ! (from ! (fld ! refl (stop !))) (look-in ! 18 (sub ! 4 refl (whole !))))) (from ! (hop ! (look ! 6 refl) (fld ! refl (fld ! refl (stop !)))))
               (store-in ! 0 (sub ! 1 refl (sub ! 1 refl (whole !))) (tt, record { fits = deed-messages c _ c-so })) $
               stores-entry _ _ _ _ _ _ _ _
             where
