@@ -57,11 +57,11 @@ enum prs_answer {
     PRS_NO_MESSAGE = 5,             /* no message at that place */
     PRS_BAD_COUNTERPARTY = 6,       /* counterparty not in the table, or the purse itself */
     PRS_BAD_AMOUNT = 7,             /* amount 0 or above 5,000,000 */
-    PRS_BUSY = 8,                   /* start at a busy purse */
+    PRS_BUSY = 8,                   /* start at a busy purse; load too */
     PRS_NUMBERS_USED_UP = 9,        /* next sequence number is 4,294,967,295 */
     PRS_LOG_FULL = 10,              /* start with 8 log entries */
     PRS_ABOVE_BALANCE = 11,         /* start-from, amount above the balance */
-    PRS_ABOVE_CEILING = 12,         /* start-to, balance plus amount above 5,000,000 */
+    PRS_ABOVE_CEILING = 12,         /* start-to, balance plus amount above 5,000,000; load too */
     PRS_NOT_EXPECTED = 13,          /* delivered message not the one expected */
     PRS_LOG_EMPTY = 14,             /* collect: log empty */
     PRS_ARCHIVE_FULL = 15,          /* collect: archive full */
@@ -70,10 +70,12 @@ enum prs_answer {
     PRS_WRONG_VERSION = 18,         /* wrong version */
     PRS_BUFFER_TOO_SHORT = 19,      /* output buffer too short */
     PRS_BAD_COUNT = 20,             /* opening: not 1 to 32 purses */
-    PRS_BALANCE_ABOVE_CEILING = 21  /* opening: a balance above 5,000,000 */
+    PRS_BALANCE_ABOVE_CEILING = 21, /* opening: a balance above 5,000,000; issue too */
+    PRS_BAD_CLASS = 22,             /* issue: a class other than 0 */
+    PRS_TABLE_FULL = 24             /* issue: 32 purses stand already */
 };
 
-/* The kind of an event (its first byte) and of a card's order. */
+/* The kind of an event (its first byte) and of a card's order; a card is never told to lose or to issue. */
 enum prs_event_kind {
     PRS_START_FROM = 1,
     PRS_START_TO = 2,
@@ -81,6 +83,7 @@ enum prs_event_kind {
     PRS_ABORT = 4,
     PRS_LOSE = 5,
     PRS_COLLECT = 6,
+    PRS_ISSUE = 7,
     PRS_LOAD = 8
 };
 
@@ -186,11 +189,14 @@ prs_handed prs_card(prs_purse *purse, prs_name own, prs_order order);
 uint8_t prs_opening(prs_purse *table, size_t records, prs_desk *desk, const uint32_t *balances, size_t count);
 
 /* One event of 12 bytes: kind, purse, counterparty, spare (0), number (4), amount (4), numbers big-endian. Number is the
-   counterparty's sequence number (starts) or a message's place (deliver, lose). Fields that a kind does not use are 0:
-   counterparty and amount outside starts, number in abort and collect, purse in lose.
-   Reads table, desk and event; changes one record of the table, and the messages or the archive.
+   counterparty's sequence number (starts) or a message's place (deliver, lose). An issue has the new purse's class (0) as
+   counterparty and its first balance as amount; the purse stands behind those of the table, whose number grows by 1. Fields
+   that a kind does not use are 0: counterparty outside starts and issue, number in abort, collect, issue and load, amount
+   outside starts, issue and load, purse in lose and issue.
+   Reads table, desk and event; changes one record of the table, and the messages, the archive or the number of purses.
    Answers 0, 1, or 2 (table or desk not well formed), 3 (any length but 12 too), then
-   starts 4, 6, 7, 8, 9, 10, then 11 or 12; deliver 4, 5, 13; abort 4; lose 5; collect 4, 14, 15. */
+   starts 4, 6, 7, 8, 9, 10, then 11 or 12; deliver 4, 5, 13; abort 4; lose 5; collect 4, 14, 15; issue 24, 22, 21; load 4,
+   7, 8, 12. */
 uint8_t prs_event(prs_purse *table, size_t records, prs_desk *desk, const uint8_t *event, size_t length);
 
 /* The whole events of a list, one after the other, as many as there are places for answers: the smaller of length / 12 and

@@ -2,7 +2,7 @@
 """Holds include/prs.h to the Rattle source. Every function that the crates export to C must have its prototype, every struct that crosses
 one its #[repr(C)], the same fields in the same order and of the same types, and an assertion of its size and of each offset with the
 number that C's rules give for the Rattle struct; the header must have nothing beside. Every answer must have the words that docs/RULES.md
-quotes from document 01. Last line 'N passed, M failed'; exit status 1 on any failure."""
+quotes from documents 01 and 02. Last line 'N passed, M failed'; exit status 1 on any failure."""
 import re
 
 from common import ROOT, finish
@@ -136,11 +136,11 @@ for claim in asserts:
 rows = {}
 for numbers, words in re.findall(r'^\| ((?:\d+, )*\d+): "(.*?)" \|', (ROOT / "docs/RULES.md").read_text(), re.M):
     for number in numbers.split(", "):
-        rows[int(number)] = words
+        rows[int(number)] = rows.get(int(number), "") + " | " + words
 answers = re.search(r"enum prs_answer \{(.*?)\};", whole, re.S).group(1)
 for number, words in re.findall(r"= (\d+),?\s*/\* (.*?) \*/", answers):
     row = rows.pop(int(number), "")
-    hold(all(part in row for part in words.split(": ")), f"answer {number}: the header says '{words}', docs/RULES.md '{row}'")
+    hold(all(part.removesuffix(" too") in row for part in re.split("[:;] ", words)), f"answer {number}: the header says '{words}', docs/RULES.md '{row}'")
 hold(not rows, f"no words in the header for the answers {sorted(rows)}")
 
 for fault in faults:
