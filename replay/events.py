@@ -56,7 +56,7 @@ class Kind(NamedTuple):
     form: str  # the words of its line, each number as a slot's name
     told: Callable  # of a done step: what it did, a sentence
     mark: Callable  # of a done step: the lines of its box in the chart, at most three short ones
-    brings: str = ""  # how its amount comes in from outside, ISSUED or LOADED; empty where it does not
+    brings: str = ""  # how its amount comes in from outside: ISSUED, LOADED or not at all
 
     @property
     def word(self):
@@ -202,7 +202,7 @@ def mark_issue(step):
 
 
 def told_load(step):
-    return f"purse {step.purse} is loaded with {step.moved[step.purse]}"
+    return f"purse {step.purse} is loaded with {step.moved.get(step.purse, 0)}"
 
 
 def mark_load(step):
