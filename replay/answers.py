@@ -1,5 +1,5 @@
-"""What document 01's numbers mean: answers, statuses of a purse, kinds of messages. A later
-answer is one line more."""
+"""What the documents' numbers mean: answers, statuses and classes of a purse, kinds of messages. A
+later answer is one line more."""
 
 ANSWERS = {
     0: "done",
@@ -19,7 +19,9 @@ ANSWERS = {
     14: "the log is empty",
     15: "the archive is full",
     20: "not 1 to 32 purses",
-    21: "a balance above 5,000,000",
+    21: "a first balance above 5,000,000",
+    22: "the class is not known to this bench, which has persons only",
+    24: "32 purses stand already: no place for another",
 }
 
 DONE = (0, 1)
@@ -28,6 +30,8 @@ SENT_LOST = 1
 IDLE, EPR, EPV, EPA = 0, 1, 2, 3
 STATUSES = {IDLE: "idle", EPR: "epr", EPV: "epv", EPA: "epa"}
 WAITS = {EPR: "waits for the request", EPV: "waits for the value", EPA: "waits for the acknowledge"}
+
+CLASSES = {0: "person", 1: "shop"}
 
 REQUEST, VALUE, ACKNOWLEDGE = 1, 2, 3
 MESSAGES = {REQUEST: "request", VALUE: "value", ACKNOWLEDGE: "acknowledge"}
@@ -39,6 +43,10 @@ def meaning(answer):
 
 def status_name(status):
     return STATUSES.get(status, f"status {status}")
+
+
+def class_name(number):
+    return CLASSES.get(number, f"holder of class {number}")
 
 
 def message_name(kind):

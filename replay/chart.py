@@ -1,8 +1,8 @@
 """A run as a picture: purses are lanes and time runs down, a row an event. In a row the purse that
-the event is for has a box with what it did: money that left or came, with the balance after it;
-entries as they are logged and collected. A message is an arrow from the row where it was sent to
-each row where it was delivered; from far off, a short one with the number of the event that sent
-it.
+the event is for has a box with what it did: money that left or came, by a transfer or from outside,
+with the balance after it; entries as they are logged and collected. A purse's lane begins where it
+is issued. A message is an arrow from the row where it was sent to each row where it was delivered;
+from far off, a short one with the number of the event that sent it.
 
 Every text has a place of its own (the row's words, one box, one answer, one note in a gap), and
 each place is as wide as its text, so no text stands over another.
@@ -12,9 +12,9 @@ import re
 from typing import NamedTuple
 
 from .answers import DONE, IDLE, SENT_LOST, counted, meaning, message_name, status_name
-from .drawing import BOLD, LARGE, LEADING, NOTE, PLAIN, SMALL, Drawing, clipped, wrapped
+from .drawing import BOLD, LARGE, LEADING, NOTE, PLAIN, SMALL, Drawing, clipped, wide, wrapped
 from .failure import WRONG, Failure
-from .transfers import owed, still_on_cards, transfers
+from .transfers import came_in, owed, still_on_cards, transfers
 
 PAD = 16
 BOX, GAP = 188, 66
@@ -23,6 +23,17 @@ PLACE_WIDTH, WORDS_WIDTH, ANSWER_WIDTH = 34, 258, 190
 HEAD, ROW = 44, 46
 FAR = 5  # rows, over which an arrow would cross too much
 SECTION = 15  # rows, after which the heads stand again
+SAMPLE = 26  # the width of a colour's sample in the legend
+
+# The colours of the boxes, with the legend's words for them.
+PAID, CAME, OUTSIDE, LOGGED, REFUSED = "paid", "came", "outside", "logged", "refused"
+LEGEND = {
+    PAID: "money left the purse",
+    CAME: "money came by a transfer",
+    OUTSIDE: "money came in from outside",
+    LOGGED: "an entry was logged or collected",
+    REFUSED: "refused",
+}
 
 
 # ---- What is shown
@@ -89,16 +100,21 @@ def mark(step, is_again):
         what = kind.word if kind else "event"
         if step.message:
             what = message_name(step.message.kind) + (" again" if is_again else "")
-        return [f"{what} refused", f"answer {step.answer}"], "refused"
+        return [f"{what} refused", f"answer {step.answer}"], REFUSED
     change = step.moved.get(step.purse, 0)
+    if change < 0:
+        return kind.mark(step), PAID
     if change:
-        return kind.mark(step), "paid" if change < 0 else "came"
+        return kind.mark(step), OUTSIDE if step.from_outside else CAME
     entries = [sum(len(p.log) for p in state.purses) for state in (step.before, step.after)]
-    return kind.mark(step), "logged" if entries[0] != entries[1] else ""
+    return kind.mark(step), LOGGED if entries[0] != entries[1] else ""
+
+
+NOT_ISSUED = "not issued yet"
 
 
 def purse_of(state, name):
-    """A purse of a state; None where it comes only later in the run."""
+    """A purse of a state; None where it is issued only later in the run."""
     return state.purses[name] if name < len(state.purses) else None
 
 
@@ -111,7 +127,7 @@ def purse_lines(state, name):
     """A purse at the foot."""
     purse = purse_of(state, name)
     if purse is None:
-        return ["not there yet"]
+        return [NOT_ISSUED]
     lines = [f"has {purse.balance}", f"{status_name(purse.status)}, next {purse.next}"]
     lines.append(f"{counted(len(purse.log), 'entry')} in its log")
     for d in purse.log:
@@ -153,6 +169,9 @@ def foot_lines(steps, state, names):
     else:
         yield "nothing is owed", "strong"
     yield f"paid and on no card: {sum(t.on_no_card for t in found)}", ""
+    outside = came_in(steps, names)
+    if outside:
+        yield outside, ""
 
 
 # ---- The picture
@@ -182,6 +201,7 @@ class Chart(Drawing):
         self.sent = {}  # of each message, where it was sent
         self.given = set()  # messages that were delivered or lost
         self.taken = set()  # messages that a purse has taken
+        self.colours = set()  # those of the boxes drawn
 
     def draw(self):
         self.head(self.choice.first)
@@ -191,6 +211,7 @@ class Chart(Drawing):
             self.row(step)
         self.standing()
         self.foot()
+        self.legend()
         self.y += PAD
 
     def title(self, words):
@@ -209,7 +230,7 @@ class Chart(Drawing):
         for name, lane in self.lanes.items():
             self.text(lane, self.y + 18, f"purse {name}", PLAIN, "strong", "middle")
             purse = purse_of(state, name)
-            said = f"has {purse.balance}" if purse else "not there yet"
+            said = f"has {purse.balance}" if purse else NOT_ISSUED
             if is_busy(state, name):
                 said += f", {status_name(purse.status)}"
             self.text(lane, self.y + 35, said, SMALL, "", "middle")
@@ -234,7 +255,8 @@ class Chart(Drawing):
             # a loss has no purse: it is shown where the message came from
             lane = self.lanes.get(step.message.sender, self.lanes.get(step.message.receiver))
         if lane is not None:
-            self.box(lane, middle, BOX, lines, colour)
+            self.box(lane, middle, BOX, lines, colour, colour == OUTSIDE)
+            self.colours.add(colour)
         elif not self.with_words:  # it is for no purse shown, and nothing else in its row says so
             self.text(self.left, middle + 4, ", ".join(lines), SMALL, "bad halo")
         if step.message:
@@ -245,10 +267,12 @@ class Chart(Drawing):
         self.rows += 1
 
     def lives(self, step, height):
-        """The lanes' lines along a row, broad while a purse is busy."""
+        """The lanes' lines along a row, from where a purse is issued on, broad while it is busy."""
         top, middle, bottom = self.y, self.y + height / 2, self.y + height
         for name, lane in self.lanes.items():
-            self.line(lane, top, lane, bottom, "life")
+            if purse_of(step.after, name):
+                start = top if purse_of(step.before, name) else middle
+                self.line(lane, start, lane, bottom, "life")
             for state, start, end in [(step.before, top, middle), (step.after, middle, bottom)]:
                 if is_busy(state, name):
                     self.line(lane, start, lane, end, "busy")
@@ -336,6 +360,20 @@ class Chart(Drawing):
             for line in wrapped(words, PLAIN * BOLD, self.width - 2 * PAD):
                 self.text(PAD, self.y + PLAIN, line, PLAIN, kind)
                 self.y += LEADING + 2
+
+    def legend(self):
+        """A sample of each colour that the boxes have, with its meaning."""
+        shown = [colour for colour in LEGEND if colour in self.colours]
+        x, self.y = PAD, self.y + (LEADING if shown else 0)
+        for colour in shown:
+            words = LEGEND[colour]
+            width = SAMPLE + 6 + wide(words, SMALL)
+            if x > PAD and x + width > self.width - PAD:
+                x, self.y = PAD, self.y + LEADING + 6
+            self.frame(x + SAMPLE / 2, self.y, SAMPLE, 14, colour, colour == OUTSIDE)
+            self.text(x + SAMPLE + 6, self.y + 4, words, SMALL, "quiet")
+            x += width + 18
+        self.y += LEADING / 2 if shown else 0
 
 
 def title(run, choice):

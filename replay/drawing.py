@@ -6,6 +6,7 @@ import html
 SMALL, PLAIN, LARGE = 11, 12, 14
 NOTE = 10
 LEADING = 15
+INSET = 3  # of a double frame's inner line
 BOLD = 1.12  # how much wider bold letters are
 
 # Widths of a common wide face (DejaVu Sans), in parts of the size; a narrower face leaves air.
@@ -34,6 +35,7 @@ RULES = """
  .box{fill:#fff;stroke:#4a6fa5;stroke-width:1.2}
  .paid{fill:#fff6e5;stroke:#b26a00}
  .came{fill:#e9f6ea;stroke:#2e7d32}
+ .outside{fill:#d9efff;stroke:#01579b}
  .logged{fill:#efe9f7;stroke:#5e4b8b}
  .refused{fill:#fdecea;stroke:#b00020;stroke-dasharray:4 3}
  .go{stroke:#2e7d32;stroke-width:1.4}
@@ -124,12 +126,19 @@ class Drawing:
         size = f'width="{self.width}" height="{height}"'
         self.back.append(f'<rect x="0" y="{self.y:g}" {size} class="band"/>')
 
-    def box(self, x, y, width, lines, kind):
-        """A box around a middle, with its lines."""
-        height = LEADING * len(lines) + 8
-        at = f'x="{x - width / 2:g}" y="{y - height / 2:g}" width="{width}" height="{height}"'
-        self.front.append(f'<rect {at} rx="4" class="box {kind}"/>')
-        lines = [clipped(line, SMALL, width - 8) for line in lines]
+    def frame(self, x, y, width, height, kind, is_double=False):
+        """A frame around a middle; a double one can be told from the others without colours."""
+        for inset in (0, INSET) if is_double else (0,):
+            left, top = x - width / 2 + inset, y - height / 2 + inset
+            size = f'width="{width - 2 * inset:g}" height="{height - 2 * inset:g}"'
+            at = f'x="{left:g}" y="{top:g}" {size}'
+            self.front.append(f'<rect {at} rx="4" class="box {kind}"/>')
+
+    def box(self, x, y, width, lines, kind, is_double=False):
+        """A frame around a middle, with its lines."""
+        room = 8 + (2 * INSET if is_double else 0)
+        self.frame(x, y, width, LEADING * len(lines) + room, kind, is_double)
+        lines = [clipped(line, SMALL, width - room) for line in lines]
         self.lines(x, y, lines, SMALL, "bad" if kind == "refused" else "", "middle")
 
     def svg(self, title):

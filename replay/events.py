@@ -4,13 +4,25 @@ told, and its mark in the chart.
 An event is 12 bytes, numbers big-endian: kind, purse, counterparty, spare (0), number (4),
 amount (4). A later kind is one entry more in KINDS, with its two functions; a later word for a
 field is one entry more in SLOTS. A function of the table is given a step of a run (run.py) that
-was done, and looks only at the states before and after it.
+was done, and looks at the states before and after it; only the class of an issued purse is taken
+from the event, since the states do not have it.
 """
 
 import struct
 from typing import Callable, NamedTuple
 
-from .answers import ACKNOWLEDGE, EPR, IDLE, REQUEST, SENT_LOST, VALUE, counted, message_name
+from .answers import (
+    ACKNOWLEDGE,
+    CLASSES,
+    EPR,
+    IDLE,
+    REQUEST,
+    SENT_LOST,
+    VALUE,
+    class_name,
+    counted,
+    message_name,
+)
 
 LAYOUT = struct.Struct(">BBBBII")
 EVENT_SIZE = LAYOUT.size
@@ -19,10 +31,11 @@ BYTE, WORD = 2**8 - 1, 2**32 - 1
 
 class Slot(NamedTuple):
     """A number in the words of an event: the field it fills and the largest value that the field
-    holds."""
+    holds; where it is said by words in place of digits, the number of each."""
 
     field: str
     most: int
+    words: dict = {}
 
 
 SLOTS = {
@@ -31,7 +44,11 @@ SLOTS = {
     "NUMBER": Slot("number", WORD),
     "PLACE": Slot("number", WORD),
     "AMOUNT": Slot("amount", WORD),
+    "CLASS": Slot("counterparty", BYTE, {name: number for number, name in CLASSES.items()}),
+    "BALANCE": Slot("amount", WORD),
 }
+
+ISSUED, LOADED = "issued", "loaded"
 
 
 class Kind(NamedTuple):
@@ -39,14 +56,19 @@ class Kind(NamedTuple):
     form: str  # the words of its line, each number as a slot's name
     told: Callable  # of a done step: what it did, a sentence
     mark: Callable  # of a done step: the lines of its box in the chart, at most three short ones
+    brings: str = ""  # how its amount comes in from outside: ISSUED, LOADED or not at all
 
     @property
     def word(self):
         return self.form.split()[0]
 
     @property
+    def slots(self):
+        return [word for word in self.form.split() if word in SLOTS]
+
+    @property
     def fields(self):
-        return {SLOTS[word].field for word in self.form.split() if word in SLOTS}
+        return {SLOTS[slot].field for slot in self.slots}
 
 
 def sending(step):
@@ -158,6 +180,35 @@ def mark_collect(step):
     ]
 
 
+def mark_outside(step):
+    """Lines of the box for what came in from outside, if anything did, and what the purse has."""
+    change = step.moved.get(step.purse, 0)
+    came = [f"+{change} from outside"] if change else []
+    return [*came, f"has {step.after.purses[step.purse].balance}"]
+
+
+def issued(step):
+    return f"issued to a {class_name(step.event.fields['counterparty'])}"
+
+
+def told_issue(step):
+    purse = step.after.purses[step.purse]
+    first = f"first balance {purse.balance}, next number {purse.next}"
+    return f"purse {step.purse} is {issued(step)}: {first}"
+
+
+def mark_issue(step):
+    return [issued(step), *mark_outside(step)]
+
+
+def told_load(step):
+    return f"purse {step.purse} is loaded with {step.moved.get(step.purse, 0)}"
+
+
+def mark_load(step):
+    return ["loaded", *mark_outside(step)]
+
+
 KINDS = [
     Kind(
         1,
@@ -175,6 +226,8 @@ KINDS = [
     Kind(4, "abort PURSE", told_abort, mark_abort),
     Kind(5, "lose PLACE", told_loss, mark_loss),
     Kind(6, "collect PURSE", told_collect, mark_collect),
+    Kind(7, "issue CLASS BALANCE", told_issue, mark_issue, ISSUED),
+    Kind(8, "load PURSE AMOUNT", told_load, mark_load, LOADED),
 ]
 BY_NUMBER = {kind.number: kind for kind in KINDS}
 BY_WORD = {kind.word: kind for kind in KINDS}
@@ -193,8 +246,8 @@ def packed(kind, fields):
 
 
 def unpacked(data):
-    """Kind and fields of bytes that a line of words could have said; no kind and no field for
-    any others."""
+    """Kind and fields of an event of the table, in a class without a name too; no kind and no
+    field for any other bytes."""
     if len(data) != EVENT_SIZE:
         return None, {}
     number, purse, counterparty, spare, place, amount = LAYOUT.unpack(data)

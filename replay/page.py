@@ -5,9 +5,9 @@ beside an event is for the one who replays it on real cards."""
 import html
 import re
 
-from .answers import DONE, counted, meaning
+from .answers import DONE, meaning
 from .chart import drawn
-from .telling import FORMULA, answered, broken, demand, moved, standing, sums
+from .telling import FORMULA, answered, broken, counts, demand, moved, standing, sums
 
 STYLE = """
 *{box-sizing:border-box}
@@ -30,6 +30,7 @@ code{font-weight:bold;overflow-wrap:anywhere}
 pre{margin:0;overflow-x:auto}
 .said,.moved{display:block;overflow-wrap:anywhere}
 .moved{color:#555}.money{color:#1b5e20;font-weight:bold}.no{color:#b00020}
+.outside{color:#01579b;font-weight:bold}
 ul{margin:4px 0;padding-left:20px}
 @media(min-width:1100px){.parts{grid-template-columns:minmax(0,44%) minmax(300px,1fr) max-content}
 .parts>*{max-height:92vh;overflow:auto}.parts pre{padding-right:12px}.told,.parts ul,.parts p{font-size:14px}
@@ -58,7 +59,9 @@ def told(run):
     out.append('<ol class="told">')
     for step in run.steps:
         said = "said" if step.done else "said no"
-        money = "moved money" if step.moved else "moved"
+        money = "moved"
+        if step.moved:
+            money += " outside" if step.from_outside else " money"
         out.append(
             f'<li><input type="checkbox" aria-label="event {step.place} replayed"><span class="place">{step.place}</span>'
             f'<span><code>{escaped(step.event.text)}</code><span class="{said}">{escaped(answered(step))}</span>'
@@ -83,7 +86,7 @@ def case(run, place):
     picture = picture.replace("<svg ", f'<svg style="min-width:{width * 4 // 5}px" ', 1)
     return (
         f'<section id="case{place}"><h2>{escaped(text.name)}</h2>{about}'
-        f"<p>{counted(len(text.balances), 'purse')}, {counted(len(text.events), 'event')}</p>"
+        f"<p>{counts(run)}</p>"
         f'<div class="parts"><div class="picture"><h3>Chart</h3>{picture}</div>'
         f"<div><h3>Telling</h3>{told(run)}</div>"
         f"<div><h3>Listing</h3><pre>{escaped(run.listing)}</pre></div></div></section>"

@@ -5,7 +5,7 @@ here knows what an event does."""
 from functools import cached_property
 
 from .answers import ACKNOWLEDGE, DONE, REQUEST, SENT_LOST, VALUE
-from .events import BY_WORD, packed
+from .events import BY_WORD, SLOTS, packed
 from .failure import Failure
 from .programs import Probe, listing
 from .state import Message
@@ -28,19 +28,38 @@ class Step:
     def done(self):
         return self.answer in DONE
 
+    def said(self, slot):
+        """The number that the event says in a slot of its words; None where they have no such
+        slot."""
+        kind = self.event.kind
+        return self.event.fields[SLOTS[slot].field] if kind and slot in kind.slots else None
+
+    @property
+    def issues(self):
+        return len(self.after.purses) > len(self.before.purses)
+
     @cached_property
     def purse(self):
-        """The purse that the event is for; None where it names none of the table."""
-        name = self.event.fields.get("purse")
+        """The purse that the event is for, an issued one too; None where it names none of the
+        table."""
+        if self.issues:
+            return len(self.before.purses)
+        name = self.said("PURSE")
         return name if name is not None and name < len(self.before.purses) else None
 
     @cached_property
     def message(self):
         """The message delivered or lost."""
-        if self.event.kind and "PLACE" in self.event.kind.form.split():
-            place = self.event.fields["number"]
-            return self.before.messages[place] if place < len(self.before.messages) else None
+        place = self.said("PLACE")
+        if place is not None and place < len(self.before.messages):
+            return self.before.messages[place]
         return None
+
+    @property
+    def from_outside(self):
+        """How money came in from outside, if it did: ISSUED or LOADED. How much did is the event's
+        own amount, never what the balance changed by, which demand 3 holds to it."""
+        return self.event.kind.brings if self.done and self.event.kind else ""
 
     @cached_property
     def sent(self):
@@ -56,7 +75,7 @@ class Step:
         """The payment that the event is about, where it is about one."""
         if self.message:
             return self.message.details
-        if self.purse is None:
+        if self.purse is None or self.issues:
             return None
         before, after = self.before.purses[self.purse], self.after.purses[self.purse]
         if len(self.after.archive) > len(self.before.archive):
@@ -82,7 +101,7 @@ class Step:
         names += (
             [self.details.payer, self.details.payee]
             if self.details
-            else [self.event.fields.get("counterparty")]
+            else [self.said("COUNTERPARTY")]
         )
         names += self.moved
         return [

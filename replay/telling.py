@@ -1,9 +1,17 @@
 """A run told in words, for a help desk: each event with its answer's meaning, the money that
-moved and the balances; then what broke, who is owed, and the check of demand 3. The page shows
-the same sentences."""
+moved and the balances; then what broke, who is owed, what came in from outside, and the check of
+demand 3. The page shows the same sentences."""
 
 from .answers import DONE, WAITS, counted, meaning, message_name, status_name
-from .transfers import checks, owed, still_on_cards, stopped, transfers
+from .transfers import (
+    came_in,
+    checks,
+    owed,
+    still_on_cards,
+    stopped,
+    sums_from_outside,
+    transfers,
+)
 
 
 def payment(details):
@@ -11,6 +19,14 @@ def payment(details):
         f"{details.amount} from purse {details.payer} (its number {details.payer_number})"
         f" to purse {details.payee} (its number {details.payee_number})"
     )
+
+
+def counts(run):
+    """How many purses and events a run has."""
+    opened = counted(len(run.text.balances), "purse")
+    issued = len(run.end.purses) - len(run.opened.purses)
+    purses = f"{opened} opened, {issued} issued" if issued else opened
+    return f"{purses}, {counted(len(run.text.events), 'event')}"
 
 
 def answered(step):
@@ -28,8 +44,9 @@ def answered(step):
 
 def moved(step):
     """The money that moved, and the balances of the purses concerned."""
+    outside = " from outside" if step.from_outside else ""
     changes = [
-        f"{amount} came to purse {name}" if amount > 0 else f"{-amount} left purse {name}"
+        f"{amount} came to purse {name}{outside}" if amount > 0 else f"{-amount} left purse {name}"
         for name, amount in step.moved.items()
     ]
     has = ", ".join(f"purse {name} has {step.after.purses[name].balance}" for name in step.concerns)
@@ -100,7 +117,8 @@ def broken(run):
 
 
 def sums(run):
-    """What is owed to whom, and all the money that was paid and is on no card."""
+    """What is owed to whom, all the money that was paid and is on no card, and what came in from
+    outside."""
     found = transfers(run.steps, run.end)
     said = [f"{amount} to purse {name}" for name, amount in owed(found).items()]
     yield "owed: " + (", ".join(said) if said else "nothing")
@@ -112,6 +130,9 @@ def sums(run):
     for transfer in unarrived:
         if not transfer.broken:
             yield f"  of it {payment(transfer.details)}, which no card has logged yet"
+    outside = came_in(run.steps, range(len(run.end.purses)))
+    if outside:
+        yield outside
     opened = sum(purse.balance for purse in run.opened.purses)
     yield f"all balances: {opened} at opening, {sum(purse.balance for purse in run.end.purses)} now"
 
@@ -126,32 +147,37 @@ def demand(run):
         )
     for check in checks(run):
         right = right and check.right
-        less = f"{check.opening} - {check.arrived_elsewhere} - {check.matched}"
+        less = f"{check.first} + {check.loaded} - {check.arrived_elsewhere} - {check.matched}"
         lines.append(
             f"purse {check.purse}: {less} + {check.arrived_here} = {check.should},"
             f" and it has {check.balance}: {'right' if check.right else 'WRONG'}"
         )
     last, found = stopped(run)
     opening = sum(purse.balance for purse in run.opened.purses)
+    outside = sums_from_outside(run.steps, range(len(last.purses)))
+    whole = opening + sum(outside.values())
+    began = f"they opened with {opening}"
+    if outside:
+        began += "".join(f" + {amount} {way}" for way, amount in outside.items()) + f" = {whole}"
     balances, claims = sum(purse.balance for purse in last.purses), sum(owed(found).values())
-    is_whole = balances + claims == opening
+    is_whole = balances + claims == whole
     lines.append(
         f"all purses: {balances} + {claims} owed = {balances + claims},"
-        f" and they opened with {opening}: {'right' if is_whole else 'WRONG'}"
+        f" and {began}: {'right' if is_whole else 'WRONG'}"
     )
     return lines, right and is_whole
 
 
-FORMULA = "opening - its payments that arrived - its matched pairs + what arrived in it = balance"
+FORMULA = (
+    "opening or issue balance + loads - its payments that arrived - its matched pairs"
+    " + what arrived in it = balance"
+)
 
 
 def told(run):
     """The whole telling as text."""
     text = run.text
-    out = [
-        f"{text.name}: {counted(len(text.balances), 'purse')}, {counted(len(text.events), 'event')}",
-        "",
-    ]
+    out = [f"{text.name}: {counts(run)}", ""]
     if run.opening not in DONE:
         out.append(f"opening refused, {run.opening}: {meaning(run.opening)}; no event is run")
         return "\n".join(out) + "\n"

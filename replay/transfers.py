@@ -6,12 +6,15 @@ of its value that answers 0 or 1. Matched: the payer and the payee have each log
 details, in the purse or in the archive. Claims, the figure printed as owed to payers, counts every
 matched pair, wherever the two entries stand. Demand 3: once every purse is stopped, each has its
 opening balance, less its payments that arrived, less what its matched log pairs record, plus
-what arrived in it. So all balances and the claims then make up the opening sum.
+what arrived in it. The opening balance, and the opening sum, take in issue balances and loads so
+far. So all balances and the claims then make up what the purses opened with, were issued with and
+were loaded with.
 """
 
 from typing import NamedTuple
 
 from .answers import REQUEST, VALUE
+from .events import ISSUED, LOADED
 from .state import Details
 
 CARD, ARCHIVE = "on its card", "in the archive"
@@ -112,11 +115,40 @@ def still_on_cards(found):
     return f"of it {amount} with entries still on cards: {cards}"
 
 
+def from_outside(steps, way):
+    """What each purse was issued with, or was loaded with in all."""
+    sums = {}
+    for step in steps:
+        if step.from_outside == way:
+            sums[step.purse] = sums.get(step.purse, 0) + step.event.fields["amount"]
+    return sums
+
+
+def sums_from_outside(steps, names):
+    """How much came in from outside to those purses, in each way; a way in which nothing came is
+    left out."""
+    sums = {}
+    for way in (ISSUED, LOADED):
+        came = from_outside(steps, way)
+        amount = sum(came[name] for name in came if name in names)
+        if amount:
+            sums[way] = amount
+    return sums
+
+
+def came_in(steps, names):
+    """What came in from outside to those purses, in words; None where nothing did."""
+    sums = sums_from_outside(steps, names)
+    ways = ", ".join(f"{amount} {way}" for way, amount in sums.items())
+    return f"money that came in from outside: {ways}" if sums else None
+
+
 class Check(NamedTuple):
     """Demand 3 for one purse, with its numbers."""
 
     purse: int
-    opening: int
+    first: int  # its opening or issue balance
+    loaded: int
     arrived_elsewhere: int
     matched: int
     arrived_here: int
@@ -124,7 +156,8 @@ class Check(NamedTuple):
 
     @property
     def should(self):
-        return self.opening - self.arrived_elsewhere - self.matched + self.arrived_here
+        kept = self.first + self.loaded - self.arrived_elsewhere - self.matched
+        return kept + self.arrived_here
 
     @property
     def right(self):
@@ -142,10 +175,13 @@ def checks(run):
     """Demand 3 for each purse, once those still busy are stopped."""
     last, found = stopped(run)
     arrived = [t.details for t in found if t.arrived]
+    first = dict(enumerate(run.text.balances)) | from_outside(run.steps, ISSUED)
+    loaded = from_outside(run.steps, LOADED)
     for name, purse in enumerate(last.purses):
         yield Check(
             name,
-            run.opened.purses[name].balance if name < len(run.opened.purses) else 0,
+            first.get(name, 0),
+            loaded.get(name, 0),
             sum(d.amount for d in arrived if d.payer == name),
             sum(t.details.amount for t in found if t.matched and t.details.payer == name),
             sum(d.amount for d in arrived if d.payee == name),

@@ -75,6 +75,17 @@ def raw_event(words):
     return data
 
 
+def slot_value(kind, name, word):
+    """What a word says in a slot of the kind's form."""
+    slot = SLOTS[name]
+    if not slot.words:
+        return number(word, name, slot.most)
+    if word not in slot.words:
+        known = " or ".join(slot.words)
+        raise Wrong(f'expected {kind.form}, found "{shown(word)}" for {name} ({known})')
+    return slot.words[word]
+
+
 def worded_event(words):
     """Kind and fields of a line in the words of the table."""
     kind = BY_WORD.get(words[0])
@@ -85,7 +96,7 @@ def worded_event(words):
     fields = {}
     for want, word in zip(form, words):
         if want in SLOTS:
-            fields[SLOTS[want].field] = number(word, want, SLOTS[want].most)
+            fields[SLOTS[want].field] = slot_value(kind, want, word)
         elif want != word:
             raise Wrong(f'expected {kind.form}, found "{shown(word)}" for "{want}"')
     if len(words) < len(form):

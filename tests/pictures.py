@@ -22,6 +22,7 @@ import subprocess
 import sys
 import tempfile
 import xml.etree.ElementTree as xml
+from collections import Counter
 from pathlib import Path
 
 import generate
@@ -29,6 +30,7 @@ import model
 from common import EXAMPLES, ROOT, finish
 from money import Ledger, matched
 from shell import one_line, slow_reader
+from words import event_bytes
 
 sys.path.insert(0, str(ROOT))
 from replay import chart, events, run, telling, words  # noqa: E402
@@ -106,8 +108,9 @@ def tellings():
         "paid and on no card: 300",
         "owed: 300 to purse 0\n  money paid and on no card: 300",
         "all balances: 1200 at opening, 900 now",
-        "purse 0: 1000 - 0 - 300 + 0 = 700, and it has 700: right",
-        "purse 1: 200 - 0 - 0 + 0 = 200, and it has 200: right",
+        "Demand 3: opening or issue balance + loads - its payments that arrived - its matched pairs + what arrived in it = balance\n",
+        "purse 0: 1000 + 0 - 0 - 300 + 0 = 700, and it has 700: right",
+        "purse 1: 200 + 0 - 0 - 0 + 0 = 200, and it has 200: right",
         "all purses: 900 + 300 owed = 1200, and they opened with 1200: right",
     )
     told = prs("tell", EXAMPLES / "still-on-cards.txt").stdout.decode()
@@ -137,8 +140,8 @@ def tellings():
         "payer, purse 0: logged nothing",
         "not matched: nothing is owed, the payer never paid",
         "owed: 300 to purse 0",
-        "purse 0: 1000 - 300 - 300 + 0 = 400, and it has 400: right",
-        "purse 1: 200 - 0 - 0 + 300 = 500, and it has 500: right",
+        "purse 0: 1000 + 0 - 300 - 300 + 0 = 400, and it has 400: right",
+        "purse 1: 200 + 0 - 0 - 0 + 300 = 500, and it has 500: right",
     )
     paid = "open 1000 200\nstart-from 0 to 1 number 1 amount 300\nstart-to 1 from 0 number 1 amount 300\ndeliver 0 to 0\n"
     says(
@@ -149,7 +152,7 @@ def tellings():
         "money paid and on no card: 300",
         "which no card has logged yet",
         "purse 0 is still busy",
-        "purse 0: 1000 - 0 - 300 + 0 = 700",
+        "purse 0: 1000 + 0 - 0 - 300 + 0 = 700",
         "all purses: 900 + 300 owed = 1200, and they opened with 1200: right",
     )
     says(
@@ -171,7 +174,7 @@ def tellings():
         "bytes",
         telling.told(
             run_of(
-                "open 5 5\nbytes 04 01 00 00 00000000 00000000\nbytes 07 00 00 00 00000000 00000000\nbytes 04"
+                "open 5 5\nbytes 04 01 00 00 00000000 00000000\nbytes 09 00 00 00 00000000 00000000\nbytes 04"
             )
         ),
         "bytes 04 01",
@@ -183,7 +186,7 @@ def tellings():
     says(
         "a refused opening",
         telling.told(run_of("open 5000001\nabort 0")),
-        "opening refused, 21: a balance above 5,000,000; no event is run",
+        "opening refused, 21: a first balance above 5,000,000; no event is run",
     )
     says(
         "33 purses",
@@ -195,6 +198,115 @@ def tellings():
         prs("tell", EXAMPLES / "full-ether.txt").stdout.decode(),
         "1, done, and the message it sent was lost: purse 0 takes the request, pays 100; the value it sends is lost, since 256 messages stand",
         "100 left purse 0",
+    )
+    from_outside()
+
+
+def from_outside():
+    """What a telling says of purses that are issued and loaded, and of what refuses that."""
+    says(
+        "issued-and-loaded",
+        prs("tell", EXAMPLES / "issued-and-loaded.txt").stdout.decode(),
+        "2 purses opened, 1 issued, 15 events\n",
+        "opened: purse 0 with 1000, purse 1 with 200\n",
+        "6  issue person 5000001",
+        "21, refused: a first balance above 5,000,000; nothing changed.",
+        "no money moved\n",
+        "7  issue person 500",
+        "0, done: purse 2 is issued to a person: first balance 500, next number 1\n",
+        "500 came to purse 2 from outside; purse 2 has 500\n",
+        "8  load 2 120",
+        "0, done: purse 2 is loaded with 120\n",
+        "120 came to purse 2 from outside; purse 2 has 620\n",
+        "10  load 2 7",
+        "8, refused: the purse is busy; nothing changed.",
+        "600 left purse 2; purse 2 has 20, purse 1 has 500\n",
+        "600 came to purse 1; purse 1 has 1100, purse 2 has 20\n",
+        "7 came to purse 2 from outside; purse 2 has 27\n",
+        "purse 2: balance 27, next number 2, idle, 0 entries in its log",
+        "money that came in from outside: 500 issued, 127 loaded\n",
+        "all balances: 1200 at opening, 1827 now\n",
+        "purse 0: 1000 + 0 - 300 - 0 + 0 = 700, and it has 700: right",
+        "purse 1: 200 + 0 - 0 - 0 + 900 = 1100, and it has 1100: right",
+        "purse 2: 500 + 127 - 600 - 0 + 0 = 27, and it has 27: right",
+        "all purses: 1827 + 0 owed = 1827, and they opened with 1200 + 500 issued + 127 loaded = 1827: right",
+    )
+    refusals = [
+        ("bytes 07 00 02 00 00000000 ffffffff", "22, refused: the class is not known"),
+        ("issue person 5000001", "21, refused: a first balance above 5,000,000"),
+        ("bytes 07 01 00 00 00000000 00000001", "3, refused: malformed"),
+        ("bytes 07 00 00 00 00000001 00000001", "3, refused: malformed"),
+        ("load 9 0", "4, refused: no such purse"),
+        ("load 1 0", "7, refused: the amount is 0 or above 5,000,000"),
+        ("load 1 5000001", "7, refused: the amount is 0 or above 5,000,000"),
+        ("load 0 1", "8, refused: the purse is busy"),
+        ("load 1 4999991", "12, refused: the balance with the amount would be above 5,000,000"),
+        ("bytes 08 01 01 00 00000000 00000001", "3, refused: malformed"),
+        ("bytes 08 01 00 00 00000001 00000001", "3, refused: malformed"),
+    ]
+    lines = "\n".join(line for line, _ in refusals)
+    told = telling.told(run_of(f"open 10 10\nstart-from 0 to 1 number 1 amount 5\n{lines}"))
+    says(
+        "refused issues and loads",
+        told,
+        *[f"{place:>2}  {line}\n    {said}" for place, (line, said) in enumerate(refusals, 2)],
+        "all balances: 20 at opening, 20 now",
+        "and they opened with 20: right",
+    )
+    hold("refused issues and loads: nothing came in", ("from outside" not in told, told))
+    says(
+        "a shop, of which this bench knows nothing",
+        telling.told(run_of("open 1\nissue shop 500")),
+        "22, refused: the class is not known to this bench, which has persons only; nothing changed.",
+        "no money moved\n",
+    )
+    says(
+        "no place for another purse",
+        telling.told(run_of("open" + " 1" * 32 + "\nissue shop 4294967295\nissue person 0")),
+        "32 purses, 2 events",
+        "24, refused: 32 purses stand already: no place for another; nothing changed.",
+        "24, refused",
+    )
+    says(
+        "a first balance of 0",
+        telling.told(run_of("open 1\nissue person 0\nload 1 3")),
+        "1 purse opened, 1 issued, 2 events",
+        "0, done: purse 1 is issued to a person: first balance 0, next number 1\n",
+        "no money moved; purse 1 has 0\n",
+        "3 came to purse 1 from outside; purse 1 has 3\n",
+        "money that came in from outside: 3 loaded\n",
+        "purse 1: 0 + 3 - 0 - 0 + 0 = 3, and it has 3: right",
+        "all purses: 4 + 0 owed = 4, and they opened with 1 + 3 loaded = 4: right",
+    )
+    says(
+        "an issued purse is owed",
+        telling.told(
+            run_of(
+                "open 1\nissue person 9\nstart-from 1 to 0 number 1 amount 9\nstart-to 0 from 1 number 1 amount 9\n"
+                "deliver 0 to 1\nabort 0\nabort 1\nload 1 2"
+            )
+        ),
+        "owed: 9 to purse 1",
+        "purse 1: 9 + 2 - 0 - 9 + 0 = 2, and it has 2: right",
+        "all purses: 3 + 9 owed = 12, and they opened with 1 + 9 issued + 2 loaded = 12: right",
+    )
+    bytes_say = "open 5\nbytes 07 00 00 00 00000000 00000003\nbytes 08 01 00 00 00000000 00000004"
+    says(
+        "an issue and a load in bytes",
+        telling.told(run_of(bytes_say)),
+        "0, done: purse 1 is issued to a person: first balance 3, next number 1",
+        "0, done: purse 1 is loaded with 4",
+    )
+    forged = run_of("open 5\nissue person 3\nload 1 4")
+    step = forged.steps[1]
+    step.event.fields["amount"] = 5  # as if the program had loaded less than it was told
+    hold(
+        "a load that is not what the event says is found",
+        (
+            "purse 1: 3 + 5 - 0 - 0 + 0 = 8, and it has 7: WRONG" in telling.told(forged)
+            and not telling.demand(forged)[1],
+            telling.demand(forged),
+        ),
     )
 
 
@@ -209,6 +321,8 @@ def words_of(events):
             (4, 0): f"abort {purse}",
             (5, 0): f"lose {number}",
             (6, 0): f"collect {purse}",
+            (7, 0): f"issue {['person', 'shop'][other]} {amount}" if other < 2 else None,
+            (8, 0): f"load {purse} {amount}",
         }.get((kind, spare))
         used = {
             1: (purse, other, number, amount),
@@ -217,6 +331,8 @@ def words_of(events):
             4: (purse, 0, 0, 0),
             5: (0, 0, number, 0),
             6: (purse, 0, 0, 0),
+            7: (0, other, 0, amount),
+            8: (purse, 0, 0, amount),
         }
         yield line if used.get(kind) == (
             purse,
@@ -238,11 +354,26 @@ def on_cards(bench):
     return f"of it {amount} with entries still on cards: {cards}"
 
 
+def with_outside(rng, events):
+    """A list with issues and loads put in between, some of them refused."""
+    events = list(events)
+    for _ in range(rng.choice([0, 2, 6])):
+        amount = rng.choice([0, 1, 300, 300, 5_000_000])
+        data = rng.choice(
+            [
+                event_bytes(7, counterparty=rng.choice([0, 0, 0, 1]), amount=amount),
+                event_bytes(8, purse=rng.randrange(5), amount=amount),
+            ]
+        )
+        events.insert(rng.randrange(len(events) + 1), data)
+    return events
+
+
 def against_model(seed, lists):
     """Each telling of a random list says what the model says: answers, balances, what was paid,
     owed, and claimed, and what of it is still on cards, which the chart says too."""
     rng = random.Random(seed)
-    ways = set()
+    ways, brought = set(), set()
     for place in range(lists):
         bench = generate.opened(rng, rng.choice([2, 2, 3, 5]))
         balances = [purse.balance for purse in bench.table[: bench.count]]
@@ -252,35 +383,45 @@ def against_model(seed, lists):
             rng.choice(["calm", "rough", "forging", "filling", "archiving-pairs"]),
             rng.choice([10, 60, 120]),
         )
+        events = with_outside(rng, events)
         text = "open " + " ".join(map(str, balances)) + "\n" + "\n".join(words_of(events))
         done = run_of(text)
         told = telling.told(done)
         again = model.Bench()
         model.opening(again, balances)
         ledger, wrong = Ledger(again), []
+        first, loads = dict(enumerate(balances)), Counter()
         for step, data in zip(done.steps, events):
             stood = [m for m in again.messages[: again.message_count]]
             had = [purse.balance for purse in again.table[: again.count]]
-            number = model.EVENT.unpack(data)[4]
+            kind, purse, _, _, number, amount = model.EVENT.unpack(data)
             message = stood[number] if number < len(stood) else None
             fault = ledger.take(data)
             if fault:
                 wrong.append(fault)
             has = [purse.balance for purse in again.table[: again.count]]
+            if step.done and kind in (7, 8):
+                brought.add(kind)
+            if step.done and kind == 7:
+                first[len(had)] = amount
+                had.append(0)
+            elif step.done and kind == 8:
+                loads[purse] += amount
             moved = {name: b - a for name, (a, b) in enumerate(zip(had, has)) if a != b}
+            outside = " from outside" if kind in (7, 8) else ""
             if step.moved != moved or [purse.balance for purse in step.after.purses] != has:
                 wrong.append(f"event {step.place}: other balances")
             said = telling.moved(step)
             for name, change in moved.items():
                 if (
-                    f"{change} came to purse {name};"
+                    f"{change} came to purse {name}{outside};"
                     if change > 0
                     else f"{-change} left purse {name};"
                 ) not in said or f"purse {name} has {has[name]}" not in said:
                     wrong.append(f"event {step.place}: {said}")
             if (
                 message
-                and data[0] == 3
+                and kind == 3
                 and step.purse is not None
                 and not step.done
                 and f"the {telling.message_name(message.kind)} of {message.details.amount} from"
@@ -311,20 +452,26 @@ def against_model(seed, lists):
         if (f"    {line}\n" in told) != bool(line) or "".join(foot[:1]) != (line or ""):
             wrong.append(f"not said, or not drawn: {line!r}, drawn {foot}")
         ledger.stopped()
-        first, has = sum(balances), sum(purse.balance for purse in again.table[: again.count])
-        line = f"all purses: {has} + {first - has} owed = {first}, and they opened with {first}: right"
+        issued, has = sum(first.values()) - sum(balances), sum(p.balance for p in again.table)
+        came = {"issued": issued, "loaded": sum(loads.values())}
+        whole = sum(balances) + sum(came.values())
+        began = f"they opened with {sum(balances)}"
+        began += "".join(f" + {amount} {way}" for way, amount in came.items() if amount)
+        began += f" = {whole}" if any(came.values()) else ""
+        line = f"all purses: {has} + {whole - has} owed = {whole}, and {began}: right"
         if line not in told:
             wrong.append(f"not said: {line!r}")
         for name in range(again.count):
             arrived = sum(d.amount for d in ledger.arrived if d.payer == name), sum(
                 d.amount for d in ledger.arrived if d.payee == name
             )
-            line = f"purse {name}: {balances[name]} - {arrived[0]} - {matched(again, name)} + {arrived[1]} = {again.table[name].balance}, and it has {again.table[name].balance}: right"
+            line = f"purse {name}: {first[name]} + {loads[name]} - {arrived[0]} - {matched(again, name)} + {arrived[1]} = {again.table[name].balance}, and it has {again.table[name].balance}: right"
             if line not in told:
                 wrong.append(f"not said: {line!r}")
         hold(f"seed {seed}, list {place}", (not wrong, wrong[:3]))
         overlaps(f"seed {seed}, list {place}", drawn)
     hold("lists with entries of pairs on cards, and without", (ways == {True, False}, ways))
+    hold("lists in which purses are issued, and loaded", (brought == {7, 8}, brought))
 
 
 def disagreeing():
@@ -377,6 +524,109 @@ def overlaps(name, picture):
             if left < right2 and left2 < right:
                 wrong.append(f"{text!r} over {other!r}")
     hold(f"{name}: no text over text", (not wrong, wrong[:3]))
+
+
+def lane_of(picture, purse):
+    """Where a purse's lane stands, and where its line begins, None where it has no line."""
+    root = xml.fromstring(picture)
+    heads = [text for text in root.iter(f"{SVG}text") if text.text == f"purse {purse}"]
+    x = float(heads[0].get("x"))
+    lives = [line for line in root.iter(f"{SVG}line") if line.get("class") == "life"]
+    tops = [float(line.get("y1")) for line in lives if float(line.get("x1")) == x]
+    return x, min(tops, default=None)
+
+
+def frames_of(picture, colour):
+    """The frames of a colour, each by its left, top, right and bottom, without the legend's."""
+    for frame in xml.fromstring(picture).iter(f"{SVG}rect"):
+        if frame.get("class") == f"box {colour}" and float(frame.get("width")) > 100:
+            x, y, width, height = (float(frame.get(of)) for of in ("x", "y", "width", "height"))
+            yield x, y, x + width, y + height
+
+
+def is_around(outer, inner):
+    """Whether a frame stands within another."""
+    left, top, right, bottom = inner
+    return outer[0] < left and outer[1] < top and right < outer[2] and bottom < outer[3]
+
+
+def pictures_from_outside():
+    """A purse's line begins where it is issued; what comes from outside has a colour, a double
+    frame and words of its own, and the legend says so."""
+    picture = prs("chart", EXAMPLES / "issued-and-loaded.txt").stdout.decode()
+    texts = [text for text, _ in texts_of(picture)]
+    for want in [
+        "not issued yet",
+        "issued to a person",
+        "+500 from outside",
+        "has 500",
+        "loaded",
+        "+120 from outside",
+        "has 620",
+        "load refused",
+        "money that came in from outside: 500 issued, 127 loaded",
+        "money left the purse",
+        "money came by a transfer",
+        "money came in from outside",
+        "refused",
+    ]:
+        hold(f"from outside: {want}", (want in texts, texts))
+    absent = "an entry was logged or collected"
+    hold("no legend for what is not there", (absent not in texts, texts))
+    frames = sorted(frames_of(picture, "outside"), key=lambda frame: frame[1])
+    doubles = list(zip(frames[0::2], frames[1::2]))
+    hold(
+        "a double frame for each of the three that came from outside",
+        (len(frames) == 6 and all(is_around(*double) for double in doubles), frames),
+    )
+    colours = ["paid", "came", "refused"]
+    others = [frame for colour in colours for frame in frames_of(picture, colour)]
+    hold("single frames for all others", (len(others) == 5, others))
+    begins = [lane_of(picture, name)[1] for name in range(3)]
+    issued = next(iter(frames), None)
+    hold(
+        "the line of an issued purse begins in its box",
+        (issued and issued[1] < begins[2] < issued[3], (begins, issued)),
+        (begins[0] == begins[1] < begins[2], begins),
+    )
+    later = chart.drawn(run_of("open 1\nissue person 0\nissue shop 1\nissue person 5000001"))
+    texts = [text for text, _ in texts_of(later)]
+    hold(
+        "a purse issued with nothing brings nothing in",
+        ("issued to a person" in texts and not list(frames_of(later, "outside")), texts),
+        (not [text for text in texts if "from outside" in text], texts),
+    )
+    part = run_of("open 1 2\nissue person 7\nload 0 3\nissue person 4\nabort 2")
+    for purses, events_shown, want in [
+        ("0", None, "money that came in from outside: 3 loaded"),
+        ("2,3", None, "money that came in from outside: 11 issued"),
+        ("1", None, None),
+        (None, "1", "money that came in from outside: 7 issued"),
+        (None, "4", "money that came in from outside: 11 issued, 3 loaded"),
+    ]:
+        drawn = chart.drawn(part, chart.chosen(part, purses, events_shown))
+        said = [text for text, _ in texts_of(drawn) if text.startswith("money that came in")]
+        hold(f"from outside to {purses} by {events_shown}", (said == [want] * bool(want), said))
+        overlaps(f"from outside to {purses} by {events_shown}", drawn)
+    drawn = chart.drawn(part, chart.chosen(part, "3", "1-2"))
+    texts = [text for text, _ in texts_of(drawn)]
+    hold(
+        "a purse that is issued after what is shown has no line",
+        (lane_of(drawn, 3)[1] is None and texts.count("not issued yet") == 2, texts),
+    )
+    nobody = chart.drawn(run_of("open 1\nissue shop 1\nload 1 1"), with_words=False)
+    texts = [text for text, _ in texts_of(nobody)]
+    hold(
+        "a refused issue and a load of no purse have their words on a page",
+        ("issue refused, answer 22" in texts and "load refused, answer 4" in texts, texts),
+    )
+    most = run_of(
+        "open 5000000\n"
+        + "issue person 5000000\n" * 31
+        + "issue person 0\nload 31 5000000\nload 255 4294967295\n"
+    )
+    for with_words in (True, False):
+        overlaps("31 purses issued", chart.drawn(most, with_words=with_words))
 
 
 def pictures():
@@ -513,15 +763,15 @@ def pictures():
 
 def later_kind():
     """A kind of event more is one entry of the table: read, run, told and drawn with no other change."""
-    text = "open 5 5\nload 1 amount 7\nbytes 08 01 00 00 00000000 00000007"
-    kind = events.Kind(8, "load PURSE amount AMOUNT", lambda step: "", lambda step: [""])
+    text = "open 5 5\ncopy 1\nbytes 09 01 00 00 00000000 00000000"
+    kind = events.Kind(9, "copy PURSE", lambda step: "", lambda step: [""])
     try:
         run_of(text)
         hold("a later kind is not there yet", (False, "it was read"))
     except Failure as failure:
         hold("a later kind is not there yet", ("is no event" in failure.says, failure.says))
     events.KINDS.append(kind)
-    events.BY_NUMBER[8] = events.BY_WORD["load"] = kind
+    events.BY_NUMBER[9] = events.BY_WORD["copy"] = kind
     try:
         done = run_of(text)
         same = done.text.events[0].data == done.text.events[1].data
@@ -529,9 +779,9 @@ def later_kind():
         boxes = [words for words, _ in texts_of(chart.drawn(done))]
     finally:
         events.KINDS.pop()
-        del events.BY_NUMBER[8], events.BY_WORD["load"]
-    hold("a later kind: its words", (same, "other bytes"), ("load 1 amount 7" in told, told))
-    hold("a later kind: its box", (boxes.count("load refused") == 2, boxes))
+        del events.BY_NUMBER[9], events.BY_WORD["copy"]
+    hold("a later kind: its words", (same, "other bytes"), ("copy 1" in told, told))
+    hold("a later kind: its box", (boxes.count("copy refused") == 2, boxes))
 
 
 # ---- Pages
@@ -735,6 +985,7 @@ def main():
     against_model(asked.seed, asked.lists)
     disagreeing()
     pictures()
+    pictures_from_outside()
     later_kind()
     with tempfile.TemporaryDirectory() as room:
         browsed(Path(room), pages(Path(room)))

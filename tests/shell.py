@@ -1,7 +1,8 @@
 #!/usr/bin/env python3
 """What users meet at ./prs: nothing fails silently. Inputs that cannot be read, outputs that cannot
 be written, programs that are older than their sources, arguments that mean nothing: each must end
-in one line on standard error, a status above 0, and no listing that looks whole.
+in one line on standard error, a status above 0, and no listing that looks whole. Purses that are
+issued and loaded in bytes are listed as document 02 has it.
 
 The checkouts in which programs are built are toys: a copy of ./prs beside two crates, and an rt
 that only writes down that it was called. Last line 'N passed, M failed'; the exit status is 1 on
@@ -256,6 +257,66 @@ def outputs():
     )
 
 
+# ---- Purses that are issued and loaded
+
+# an opening with 1000; then events with the answers that document 02 gives them
+ISSUED = [
+    ("07000000 00000000 000001f4", 0),  # purse 1, with 500
+    ("08010000 00000000 00000007", 0),
+    ("07000200 00000000 ffffffff", 22),  # a class that no bench knows, before the balance
+    ("07000000 00000000 004c4b41", 21),  # 5,000,001
+    ("07010000 00000000 00000001", 3),  # an issue names no purse
+    ("07000000 00000001 00000001", 3),  # and has no number
+    ("08000100 00000000 00000001", 3),  # a load has no counterparty
+    ("08000000 00000001 00000001", 3),  # and no number
+    ("08020000 00000000 00000000", 4),
+    ("08000000 00000000 00000000", 7),
+    ("08000000 00000000 004c4b41", 7),
+    ("01000100 00000001 0000000a", 0),  # purse 0 is to pay
+    ("08000000 00000000 00000001", 8),
+    ("08010000 00000000 004c4946", 12),  # 4,999,494: one above what purse 1 has room for
+    ("08010000 00000000 004c4945", 0),
+    ("07000000 00000000 00000000", 0),  # purse 2, with nothing
+    ("00000000 00000000 00000000", 3),  # kinds that are none
+    ("09000000 00000000 00000000", 3),
+    ("ff000000 00000000 00000000", 3),
+]
+ISSUED_END = b"""purse 0 1000 2 1 0
+purse 1 5000000 1 0 0
+purse 2 0 1 0 0
+messages 0 archive 0 claims 0
+"""
+
+
+def issued():
+    data = bytes.fromhex("01 000003e8" + "".join(event for event, _ in ISSUED))
+    lines = "".join(f"{place} {answer}\n" for place, (_, answer) in enumerate(ISSUED, 1))
+    ran = run([SCRIPT], input=data)
+    hold(
+        "purses issued and loaded",
+        (ran.stdout == b"PRS 1\n" + lines.encode() + ISSUED_END, ran.stdout),
+        (ran.returncode == 0 and not ran.stderr, ran.stderr),
+    )
+    full = bytes([32]) + bytes(4 * 32)
+    for event, answer in [
+        ("07000900 00000000 ffffffff", 24),  # before the class and the balance
+        ("07000000 00000001 00000000", 3),
+    ]:
+        ran = run([SCRIPT], input=full + bytes.fromhex(event))
+        hold(
+            f"32 purses, answer {answer}",
+            (ran.stdout.startswith(b"PRS 1\n1 %d\npurse 0 0 1 0 0\n" % answer), ran.stdout[:60]),
+            (ran.stdout.count(b"purse ") == 32, ran.stdout[-60:]),
+        )
+    words = "open 1000\n" + "".join(f"bytes {event}\n" for event, _ in ISSUED)
+    ran = run([SCRIPT, "list", "-"], input=words.encode())
+    hold(
+        "purses issued and loaded, as words",
+        (ran.stdout == run([SCRIPT], input=data).stdout, ran.stdout),
+        (ran.returncode == 0 and not ran.stderr, ran.stderr),
+    )
+
+
 # ---- Arguments
 
 
@@ -281,6 +342,7 @@ def arguments():
             f"./prs {words[0]}",
             (ran.returncode == 0, ran.returncode),
             (b"tell FILE.txt" in ran.stdout, ran.stdout),
+            (b"7 issue" in ran.stdout and b"8 load" in ran.stdout, ran.stdout),
             (not ran.stderr, ran.stderr),
         )
     ran = run([SCRIPT, "--version"])
@@ -578,6 +640,7 @@ def main():
             (room / name).mkdir()
         inputs()
         outputs()
+        issued()
         arguments()
         links(room / "links")
         stale(room / "stale")

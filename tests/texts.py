@@ -44,6 +44,18 @@ ALLOWED = [
     ),
     ("255 purses", "open" + " 0" * 255, "bytes ff " + "00" * 1020),
     (
+        "a purse issued to a person, to a shop, and loaded",
+        OPEN + "issue person 0\nissue\tshop 500\nload 2 7",
+        OPEN
+        + "bytes 07000000 00000000 00000000\nbytes 07000100 00000000 000001f4\n"
+        + "bytes 08020000 00000000 00000007",
+    ),
+    (
+        "the largest numbers of an issue and a load",
+        OPEN + "issue shop 4294967295\nload 255 4294967295",
+        OPEN + "bytes 07000100 00000000 ffffffff\nbytes 08ff0000 00000000 ffffffff",
+    ),
+    (
         "an event in bytes",
         OPEN + "bytes 04 0100 0000000000 00000000\nabort 1",
         OPEN + "abort 1\nabort 1",
@@ -92,8 +104,19 @@ REFUSED = [
         "an unknown event",
         OPEN + "\nstop 0",
         3,
-        "start-from, start-to, deliver, abort, lose, collect, bytes",
+        "start-from, start-to, deliver, abort, lose, collect, issue, load, bytes",
     ),
+    ("no class", OPEN + "issue 500", 2, 'found "500" for CLASS (person or shop)'),
+    ("another class", OPEN + "issue firm 500", 2, 'expected issue CLASS BALANCE, found "firm"'),
+    ("a class by its number", OPEN + "issue 1 500", 2, "(person or shop)"),
+    ("a class in capitals", OPEN + "issue Shop 500", 2, "(person or shop)"),
+    ("an issue without its balance", OPEN + "issue shop", 2, "ends early"),
+    ("an issue at a place", OPEN + "issue person 2 500", 2, 'found "500"'),
+    ("a first balance out of range", OPEN + "issue person 4294967296", 2, "0 to 4294967295"),
+    ("a load without its amount", OPEN + "load 1", 2, "expected load PURSE AMOUNT"),
+    ("a load with a word too many", OPEN + "load 1 amount 7", 2, "plain digits"),
+    ("a load of a purse out of range", OPEN + "load 256 7", 2, "PURSE 256 is out of range"),
+    ("a load out of range", OPEN + "load 1 4294967296", 2, "0 to 4294967295"),
     ("an event in capitals", OPEN + "Abort 0", 2, "expected one of"),
     ("another word", OPEN + "deliver 0 at 0", 2, "expected deliver PLACE to PURSE"),
     ("words left out", OPEN + "start-from 0 to 1 number 1", 2, "ends early"),
@@ -234,7 +257,7 @@ def files(room):
 
 # ---- Random texts
 
-TOKENS = "open start-from start-to deliver abort lose collect bytes to from number amount # 0 1 2 3 300 1000 255 256 4294967295 4294967296 -1 ff 0x ② 00 é".split()
+TOKENS = "open start-from start-to deliver abort lose collect issue load bytes person shop to from number amount # 0 1 2 3 300 1000 255 256 4294967295 4294967296 -1 ff 0x ② 00 é".split()
 ODD = [
     b"\r",
     b"\n",
@@ -258,6 +281,9 @@ FORMS = [
     "abort {}",
     "lose {}",
     "collect {}",
+    "issue person {}",
+    "issue shop {}",
+    "load {} {}",
 ]
 
 
@@ -311,7 +337,7 @@ def fuzz(seed, count, runs):
     reader reads them."""
     rng = random.Random(seed)
     examples = [path.read_bytes()[:2000] for path in sorted(EXAMPLES.glob("*.txt"))]
-    taken, refused, run = 0, 0, 0
+    taken, refused, run, done_kinds = 0, 0, 0, set()
     for place in range(count):
         data = random_text(rng, examples)
         try:
@@ -340,6 +366,7 @@ def fuzz(seed, count, runs):
             try:
                 done = Run(text)
                 telling.told(done), chart.drawn(done), page.page([done])
+                done_kinds |= {step.event.kind.word for step in done.steps if step.done}
             except Exception:
                 hold(
                     f"seed {seed}, text {place}",
@@ -350,6 +377,7 @@ def fuzz(seed, count, runs):
         (taken > count // 10, f"only {taken} were read"),
         (refused > count // 10, f"only {refused} were refused"),
         (run == runs, f"{run} run"),
+        ({"issue", "load"} <= done_kinds or runs < 100, f"done were only {done_kinds}"),
     )
     return rng, examples
 

@@ -9,16 +9,22 @@ import re
 import struct
 import sys
 
-# The words of an event's line, a field of the event in angle brackets, and the event's kind.
+# The words of an event's line, a field of the event in angle brackets; the event's kind; fields that the words themselves fill.
 EVENTS = [
-    ("start-from <purse> to <counterparty> number <number> amount <amount>", 1),
-    ("start-to <purse> from <counterparty> number <number> amount <amount>", 2),
-    ("deliver <number> to <purse>", 3),
-    ("abort <purse>", 4),
-    ("lose <number>", 5),
-    ("collect <purse>", 6),
+    ("start-from <purse> to <counterparty> number <number> amount <amount>", 1, {}),
+    ("start-to <purse> from <counterparty> number <number> amount <amount>", 2, {}),
+    ("deliver <number> to <purse>", 3, {}),
+    ("abort <purse>", 4, {}),
+    ("lose <number>", 5, {}),
+    ("collect <purse>", 6, {}),
+    ("issue person <amount>", 7, {"counterparty": 0}),
+    ("issue shop <amount>", 7, {"counterparty": 1}),
+    ("load <purse> <amount>", 8, {}),
 ]
-FORMS = [(re.compile(re.sub(r"<(\w+)>", r"(?P<\1>[0-9]+)", form)), kind) for form, kind in EVENTS]
+FORMS = [
+    (re.compile(re.sub(r"<(\w+)>", r"(?P<\1>[0-9]+)", form)), kind, filled)
+    for form, kind, filled in EVENTS
+]
 
 
 def event_bytes(kind, purse=0, counterparty=0, number=0, amount=0):
@@ -35,11 +41,11 @@ def line_bytes(line):
     if words[0] == "open":
         balances = [int(word) for word in words[1:]]
         return struct.pack(f">B{len(balances)}I", len(balances), *balances)
-    for form, kind in FORMS:
+    for form, kind, filled in FORMS:
         match = form.fullmatch(" ".join(words))
         if match:
             fields = {field: int(number) for field, number in match.groupdict().items()}
-            return event_bytes(kind, **fields)
+            return event_bytes(kind, **filled, **fields)
     raise ValueError("no such event")
 
 
