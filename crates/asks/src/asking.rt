@@ -52,9 +52,12 @@ fn class_ok(class: u8) -> bool
 fn issue_number(purses: u8, class: u8, balance: Amount) -> u8
     ensures { λ r. ⌜ r ≡ first (issueTests purses class balance) ⌝ }
 {
-    let n = tested(0, 32 <= purses, 24); // a free place first
-    let n = tested(n, !class_ok(class), 22);
-    let n = tested(n, Purse::MAX_BALANCE.0 < balance.0, 21);
+    let full = 32 <= purses;
+    let bad = !class_ok(class);
+    let above = Purse::MAX_BALANCE.0 < balance.0;
+    let n = tested(0, full, 24);
+    let n = tested(n, bad, 22);
+    let n = tested(n, above, 21);
     n
 }
 

@@ -13,7 +13,8 @@ use Rattle.purse.specs.Purse.{zeroPurse}
 use Rattle.purse.proofs.Padded.{push-padded}
 use Rattle.desk.specs.declared.Desk.{Desk}
 use Rattle.desk.specs.Desk.{openedDesk}
-use Rattle.rules.specs.Run.{openedAt, opened}
+use Rattle.rules.specs.Bench.{openedAt}
+use Rattle.rules.specs.Run.{opened}
 use Rattle.rules.specs.Laid.{laid}
 
 pub table-more : (bs : List ℕ) (i : ℕ) → i < length bs → length bs ≤ 32 → set (padded 32 zeroPurse (map openedAt (take i bs))) i (openedAt (getD bs i 0)) ≡ padded 32 zeroPurse (map openedAt (take (i + 1) bs))

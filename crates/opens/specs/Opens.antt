@@ -3,7 +3,7 @@ use Prim.Native.Nat.{ℕ}
 use mathlib.Core.Bool.{Bool}
 use lib.Dec.{leb}
 use Rattle.purse.specs.Purse.{ceiling}
-use Rattle.rules.specs.Run.{openedAt}
+use Rattle.rules.specs.Bench.{openedAt}
 
 abbrev pub within : ℕ → Bool
 within b = leb b (ceiling (openedAt b))

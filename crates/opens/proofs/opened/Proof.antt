@@ -1,7 +1,7 @@
 -- `opens::opened` meets its contract: the loop's invariant: the table is the purses of the balances passed, zero behind them.
 -- Assumes nothing.
 use Rattle.opens.proofs.OpenedTable.{table-more, opened-laid}
-use Rattle.rules.specs.Run.{openedAt}
+use Rattle.rules.specs.Bench.{openedAt}
 use Rattle.purse.specs.Purse.{zeroPurse}
 use Rattle.purse.specs.Lists.{padded}
 use Rattle.purse.specs.declared.Purse.{Purse}

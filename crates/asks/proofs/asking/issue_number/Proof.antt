@@ -7,11 +7,11 @@ use borrow.Author.Needs.{needs}
 use Rattle.asks.proofs.asking.issue_number.Statement.{statement}
 use Rattle.asks.proofs.asking.issue_number.Tie as tie
 
-tested-requires : tie.Need-tested-requires
-tested-requires c κs = search needs
-
 class-ok-requires : tie.Need-class-ok-requires
 class-ok-requires c κs = search needs
+
+tested-requires : tie.Need-tested-requires
+tested-requires c κs = search needs
 
 tested-requires-2 : tie.Need-tested-requires-2
 tested-requires-2 c κs = search needs
@@ -21,9 +21,10 @@ tested-requires-3 c κs = search needs
 
 returns : tie.Need-returns
 returns c =
-    let now = c .before .before .before .before .before .before .args in
-    rw (c .tested3 .ensures, c .before .before .before .tested2 .ensures, c .before .before .before .before .class-ok .ensures, c .before .before .before .before .before .tested .ensures)
+    let tests = c .before .before .before .before .before in
+    let now = tests .before .args in
+    rw (c .tested3 .ensures, c .before .tested2 .ensures, c .before .before .tested .ensures, tests .class-ok .ensures)
     (walks (issueTests (now .purses) (now .class) (now .balance)) refl)
 
 pub issue-number-spec : {M : Type 1} → statement M
-issue-number-spec = tie.close (tie.spec tested-requires class-ok-requires tested-requires-2 tested-requires-3 returns)
+issue-number-spec = tie.close (tie.spec class-ok-requires tested-requires tested-requires-2 tested-requires-3 returns)
