@@ -14,7 +14,8 @@ use Rattle.purse.proofs.Tests.{numbered, walks}
 use Rattle.refusals.specs.declared.Head.{Head}
 use Rattle.refusals.specs.Numbers.{startTests, startNumber}
 
-next : (t : Bool) (k : ℕ) {found from n : ℕ} → n ≡ after found t k → found ≡ from → n ≡ after from t k
+-- one test more behind those before it
+pub next : (t : Bool) (k : ℕ) {found from n : ℕ} → n ≡ after found t k → found ≡ from → n ≡ after from t k
 next t k e f = e ∙ ap (λ (m : ℕ). after m t k) f
 
 -- a test whose Bool is told by another name
