@@ -105,24 +105,31 @@ def forged(rng, bench):
     return words.event_bytes(rng.choice([START_FROM, START_TO]), name, other, number, amount)
 
 
+def named(rng, bench, names=()):
+    """One of these purses; of all where there are none of these, and now and then none of the table."""
+    if rng.random() < 0.05:
+        return rng.choice([bench.count, 32, 255])
+    return rng.choice(names or range(bench.count))
+
+
 def replay(rng, bench):
     """A message that stands, to a purse that it names or to any."""
     if bench.message_count == 0:
-        return words.event_bytes(DELIVER, rng.randrange(bench.count), number=rng.choice(NUMBERS))
+        return words.event_bytes(DELIVER, named(rng, bench), number=rng.choice(NUMBERS))
     place = rng.randrange(bench.message_count)
     details = bench.messages[place].details
-    name = rng.choice([details.payer, details.payee, rng.randrange(bench.count)])
+    name = named(rng, bench, [details.payer, details.payee, rng.randrange(bench.count)])
     return words.event_bytes(DELIVER, name, number=place)
 
 
 def broken(rng, bench):
     busy = [name for name in range(bench.count) if bench.table[name].status != IDLE]
-    return words.event_bytes(ABORT, rng.choice(busy) if busy else rng.randrange(bench.count))
+    return words.event_bytes(ABORT, named(rng, bench, busy))
 
 
 def collected(rng, bench):
     logged = [name for name in range(bench.count) if bench.table[name].logged]
-    return words.event_bytes(COLLECT, rng.choice(logged) if logged else rng.randrange(bench.count))
+    return words.event_bytes(COLLECT, named(rng, bench, logged))
 
 
 def lost(rng, bench):
@@ -209,7 +216,10 @@ def walk(rng, bench, mood, length):
 
 def event_of(rng, bench):
     """One event in any mood, now and then cut or with bytes behind it."""
-    data = walk_event(rng, bench, rng.choice(list(MOODS)))
+    mood = rng.choice(list(MOODS))
+    if bench.message_count == model.MESSAGES and rng.random() < 0.5:
+        mood = "filling"  # what is sent then is lost
+    data = walk_event(rng, bench, mood)
     if rng.random() < 0.05:
         return (data + data + bytes(255))[: rng.choice([0, 1, 11, 13, 24, 255])]
     return data
@@ -501,7 +511,7 @@ def damaged_purse(rng, purse, names):
 
 
 def full_log(purse, name, names):
-    """The busy purse with a log of eight entries, each with the purse's own number."""
+    """The purse with a log of eight entries, each with the purse's own number."""
     entries = []
     for number in range(1, LOG_PLACES + 1):
         other = (name + 1) % names
@@ -731,10 +741,14 @@ def card_input(rng, bench):
             purse = NO_PURSE._replace(balance=purse.balance, next=rng.choice([1, 7, LAST_NUMBER]))
     elif chance < 0.1:
         name = rng.randrange(model.PURSES)
+    elif chance < 0.2:
+        purse, says = purse._replace(next=LAST_NUMBER), says + ", the last number"
+    elif chance < 0.25 and purse.status == IDLE:
+        purse, says = full_log(purse, name, model.PURSES), says + ", eight log entries"
     kind = rng.choice([START_FROM, START_TO, DELIVER, DELIVER, ABORT, COLLECT, LOAD])
     if rng.random() < 0.3:
         purse = purse._replace(status=IDLE, details=NO_DETAILS)
-    other = rng.choice([0, 1, 31, 32, 33, 128, 255, name, rng.randrange(32)])
+    other = rng.choice([0, 1, 31, 32, 33, 128, 255, name, *rng.choices(range(32), k=3)])
     number = rng.choice(NUMBERS)
     amount = rng.choice([start_amount(rng, purse), rng.randint(1, 9)])
     return (name, purse, kind, other, number, amount, card_message(rng, purse, name)), says
