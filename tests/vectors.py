@@ -177,8 +177,8 @@ VECTORS_MADE = {
     "edge-11-bytes": (TWO + events("01000100 00000001 000001"), "3"),
     # answer 3
     "kinds-malformed": (
-        TWO + events(*(f"{kind:02x}000000 00000000 00000000" for kind in (0, 9, 10, 128, 255))),
-        "3 3 3 3 3",
+        TWO + events(*(f"{kind:02x}000000 00000000 00000000" for kind in (0, *range(9, 256)))),
+        " ".join(["3"] * 248),
     ),
     "spare-not-zero": (
         TWO
