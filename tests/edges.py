@@ -105,6 +105,7 @@ def edges():
 # ---- A5: issue and load
 
 LARGEST = 4_294_967_295
+UNUSED_NUMBERS = [{"number": number} for number in (1, 256, 65536, 16_777_216, LARGEST)]
 
 
 def issue(balance=0, purse_class=0, name=0, number=0):
@@ -158,7 +159,7 @@ def issues():
     yield Edge("issue too high, 31 purses stand", nearly, [issue(5_000_001)], [21], nearly)
     yield Edge("issue too high, 32 purses stand", full, [issue(5_000_001)], [24], full)
     for bench in (two, full):
-        for unused in ({"name": 1}, {"name": 255}, {"number": 1}, {"number": LARGEST}):
+        for unused in [{"name": 1}, {"name": 255}] + UNUSED_NUMBERS:
             for one in (issue(7, **unused), issue(LARGEST, 9, **unused)):
                 yield Edge(f"issue with {unused}", bench, [one], [3], bench)
 
@@ -210,7 +211,7 @@ def loads():
     for name in (2, 31, 32, 255):
         for amount in (0, 1, LARGEST):
             yield Edge(f"load at purse {name}", two, [load(name, amount)], [4], two)
-    for unused in ({"counterparty": 1}, {"counterparty": 255}, {"number": 1}, {"number": LARGEST}):
+    for unused in [{"counterparty": 1}, {"counterparty": 255}] + UNUSED_NUMBERS:
         for name, amount in [(0, 1), (0, 0), (255, 1)]:
             yield Edge(f"load with {unused}", two, [load(name, amount, **unused)], [3], two)
     # an issued purse is loaded, and not before it is issued
