@@ -20,6 +20,7 @@ IDLE, EPR, EPV, EPA = range(4)
 REQUEST, VALUE, ACKNOWLEDGE = 1, 2, 3
 START_FROM, START_TO, DELIVER, ABORT, LOSE, COLLECT, ISSUE, LOAD = range(1, 9)
 PERSON = 0  # the one class until A2
+ANSWERS = [*range(0, 23), 24]  # those of document 01, and A5's 22 and 24
 
 
 class Details(NamedTuple):

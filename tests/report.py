@@ -217,8 +217,10 @@ def results(commands):
 def difference(want, got):
     """The first difference of two states, in words."""
     fields = ["balance", "next number", "status", "details", "log"]
+    if want[0].keys() != got[0].keys():
+        return f"purses: the documents give {sorted(want[0])}, the report {sorted(got[0])}"
     for name, purse in want[0].items():
-        for field, a, b in zip(fields, purse, got[0].get(name, [None] * 5)):
+        for field, a, b in zip(fields, purse, got[0][name]):
             if a != b:
                 return f"purse {name} {field}: document 01 gives {a}, the report {b}"
     if want[1] != got[1]:
