@@ -30,7 +30,7 @@ _Static_assert(sizeof(Purse) == sizeof(prs_purse) && sizeof(Desk) == sizeof(prs_
                    sizeof(Message) == sizeof(prs_message) && sizeof(Details) == sizeof(prs_details),
                "one state for all sides");
 
-/* ---- States: 32 purses, so many messages and archive entries, log entries up to a count ---- */
+/* ---- States: 32 purses or fewer, so many messages and archive entries, log entries up to a count ---- */
 
 enum { NEXT = 100000 };
 
@@ -41,10 +41,10 @@ static Details details(unsigned payer, unsigned payerseq, unsigned payee, unsign
 
 /* Busy purses (every odd one) hold one log entry less than the count, purse 0 too, so that it can
    start. Message 0 is the request that purse 1 waits for. */
-static void fill(Held *held, unsigned messages, unsigned entries, unsigned logged) {
+static void fill(Held *held, unsigned purses, unsigned messages, unsigned entries, unsigned logged) {
     memset(held, 0, sizeof *held);
-    held->desk.purses = PURSES;
-    for (unsigned i = 0; i < PURSES; i++) {
+    held->desk.purses = (uint8_t)purses;
+    for (unsigned i = 0; i < purses; i++) {
         Purse *p = &held->table[i];
         unsigned other = (i + 1) % PURSES;
         p->balance.value = 1000000;
@@ -125,7 +125,7 @@ static void log_all(Held *held, bool paired) {
     archive->count = PLACES;
 }
 
-typedef enum { APART, SAME_KEY, SAME_KEY_AND_PAYERSEQ, ALL_PAIRED, ALL_ALONE } Kind;
+typedef enum { APART, SAME_KEY, SAME_KEY_AND_PAYERSEQ, ALL_PAIRED, ALL_ALONE, FEW_PURSES } Kind;
 typedef struct { const char *name; unsigned messages, entries, logged; Kind kind; } Size;
 static const Size SIZES[] = {
     {"empty", 0, 0, 0, APART},
@@ -136,8 +136,9 @@ static const Size SIZES[] = {
     {"colliding", PLACES, PLACES, LOG_PLACES, SAME_KEY},
     {"colliding_worst", PLACES, PLACES, LOG_PLACES, SAME_KEY_AND_PAYERSEQ},
     {"paired", PLACES, PLACES, LOG_PLACES, ALL_PAIRED},
-    {"alone", PLACES, PLACES, LOG_PLACES, ALL_ALONE}};
-enum { EMPTY, MIDDLING, FULL, MESSAGES, ARCHIVE, COLLIDING, COLLIDING_WORST, PAIRED, ALONE, SIZE_COUNT };
+    {"alone", PLACES, PLACES, LOG_PLACES, ALL_ALONE},
+    {"few_purses", 0, 0, 0, FEW_PURSES}};
+enum { EMPTY, MIDDLING, FULL, MESSAGES, ARCHIVE, COLLIDING, COLLIDING_WORST, PAIRED, ALONE, FEW, SIZE_COUNT };
 
 /* One event of each kind; what a full bench answers stands beside. */
 static const uint8_t EVENTS[][EVENT_BYTES] = {
@@ -147,20 +148,24 @@ static const uint8_t EVENTS[][EVENT_BYTES] = {
     {4, 3, 0, 0, 0, 0, 0, 0, 0, 0, 0, 0},  /* abort in epa: 0 */
     {5, 0, 0, 0, 0, 0, 0, 0, 0, 0, 0, 0},  /* the first message lost: 0 */
     {6, 2, 0, 0, 0, 0, 0, 0, 0, 0, 0, 0},  /* collect: 15 */
+    {7, 0, 0, 0, 0, 0, 0, 0, 0, 0, 1, 44}, /* issue: 24; with few purses 0 */
+    {8, 0, 0, 0, 0, 0, 0, 0, 0, 0, 1, 44}, /* load: 0 */
 };
 enum { EVENT_COUNT = sizeof EVENTS / sizeof *EVENTS, RUN_EVENTS = 256 };
 
 static uint8_t run_input[RUN_EVENTS * EVENT_BYTES];
 
-/* A run: starts, deliveries, aborts, losses and collects in turn, over all purses. */
-static void fill_run(void) {
+/* A run: starts, deliveries, aborts, losses, collects and, up to that kind, issues and loads in turn, over all purses. */
+static void fill_run(EventKind last) {
     for (unsigned i = 0; i < RUN_EVENTS; i++) {
         uint8_t *e = run_input + i * EVENT_BYTES;
-        unsigned kind = 1 + i % 6, purse = (i / 6) % PURSES;
+        unsigned kind = 1 + i % last, purse = (i / last) % PURSES;
         memset(e, 0, EVENT_BYTES);
         e[0] = (uint8_t)kind;
-        e[1] = (uint8_t)(kind == LOSE ? 0 : purse);
-        if (kind <= START_TO) {
+        e[1] = (uint8_t)(kind == LOSE || kind == ISSUE ? 0 : purse);
+        if (kind == ISSUE || kind == LOAD) {
+            put32(e + 8, 100000 * (i % 11));
+        } else if (kind <= START_TO) {
             e[2] = (uint8_t)((purse + 1) % PURSES);
             put32(e + 4, 9);
             put32(e + 8, 300);
@@ -302,7 +307,7 @@ static void ready(World *w) {
 }
 
 static void set_size(const Size *size) {
-    fill(&before, size->messages, size->entries, size->logged);
+    fill(&before, size->kind == FEW_PURSES ? 4 : PURSES, size->messages, size->entries, size->logged);
     if (size->kind == SAME_KEY || size->kind == SAME_KEY_AND_PAYERSEQ)
         collide(&before, size->kind == SAME_KEY_AND_PAYERSEQ);
     if (size->kind == ALL_PAIRED || size->kind == ALL_ALONE)
@@ -387,10 +392,17 @@ static uint32_t draw(uint32_t below) {
 /* An event that is often accepted, sometimes damaged. */
 static void draw_event(uint8_t *e) {
     memset(e, 0, EVENT_BYTES);
-    e[0] = (uint8_t)(1 + draw(6));
-    if (e[0] != LOSE)
+    e[0] = (uint8_t)(1 + draw(LOAD));
+    if (e[0] == ISSUE && draw(8) != 0)
+        e[0] = LOAD; /* so that the table fills slowly */
+    if (e[0] != LOSE && e[0] != ISSUE)
         e[1] = (uint8_t)draw(draw(20) == 0 ? 40 : 4);
-    if (e[0] <= START_TO) {
+    if (e[0] == ISSUE) {
+        e[2] = (uint8_t)(draw(4) == 0 ? draw(3) : 0);
+        put32(e + 8, draw(6000000));
+    } else if (e[0] == LOAD) {
+        put32(e + 8, draw(8) == 0 ? draw(6000000) : draw(4));
+    } else if (e[0] <= START_TO) {
         e[2] = (uint8_t)draw(4);
         put32(e + 4, NEXT + draw(4));
         put32(e + 8, draw(20) == 0 ? draw(6000000) : 1 + draw(3));
@@ -403,19 +415,20 @@ static void draw_event(uint8_t *e) {
 
 /* An order of every kind to a card, its own name now and then too high or another's; the message is one that stands, or a damaged one. */
 static void draw_order(void) {
-    static const EventKind kinds[] = {START_FROM, START_TO, DELIVER, ABORT, COLLECT};
+    static const EventKind kinds[] = {START_FROM, START_TO, DELIVER, ABORT, COLLECT, LOAD};
     uint8_t name = (uint8_t)draw(draw(20) == 0 ? 40 : 4);
     Message message = before.desk.ether.places[draw(8)];
     if (draw(4) == 0) {
         message.kind = (uint8_t)draw(5);
         message.details = before.table[name % PURSES].details;
     }
-    tell(name, kinds[draw(5)], (uint8_t)draw(draw(20) == 0 ? 40 : 4), NEXT + draw(4),
+    tell(name, kinds[draw(6)], (uint8_t)draw(draw(20) == 0 ? 40 : 4), NEXT + draw(4),
          draw(20) == 0 ? draw(6000000) : 1 + draw(3), message);
 }
 
 static void check(void) {
     uint8_t e[EVENT_BYTES];
+    fill_run(LOAD);
     for (unsigned s = 0; s < SIZE_COUNT; s++) {
         set_size(&SIZES[s]);
         for (unsigned k = 0; k < CALL_COUNT; k++)
@@ -614,7 +627,7 @@ static bool stack_all(void) {
 
 int main(int argc, char **argv) {
     const char *what = argc > 1 ? argv[1] : "check";
-    fill_run();
+    fill_run(COLLECT); /* the figures of a run stay those of the same list */
     run_events = RUN_EVENTS;
     card_steps = CARDS;
     tell_start();

@@ -225,6 +225,17 @@ static void drop_oldest(Purse *purse) {
     purse->logged--;
 }
 
+static uint8_t load(Purse *purse, Amount amount) {
+    if (!amount_ok(amount))
+        return 7;
+    if (purse->status != IDLE)
+        return 8;
+    if (purse->balance.value + amount.value > CEILING)
+        return 12;
+    purse->balance.value += amount.value;
+    return 0;
+}
+
 uint8_t card_step(Purse *purse, Name own, const CardEvent *event, CardHanded *handed) {
     *handed = (CardHanded){0};
     if (!purse_ok(purse, own, PURSES))
@@ -251,6 +262,8 @@ uint8_t card_step(Purse *purse, Name own, const CardEvent *event, CardHanded *ha
     case ABORT:
         stop(purse);
         return 0;
+    case LOAD:
+        return load(purse, event->amount);
     default:
         if (purse->logged == 0)
             return 14;
@@ -300,6 +313,46 @@ static uint8_t collect(Purse *purse, Name own, Archive *archive) {
     return 0;
 }
 
+static void open_purse(Purse *purse, Amount balance) {
+    purse->balance = balance;
+    purse->next.value = 1;
+}
+
+/* The record at the purse count is all zero. */
+static uint8_t issue(Purse *table, Desk *desk, uint8_t class, Amount balance) {
+    if (desk->purses == PURSES)
+        return 24;
+    if (class != PERSON)
+        return 22;
+    if (balance.value > CEILING)
+        return 21;
+    open_purse(&table[desk->purses], balance);
+    desk->purses++;
+    return 0;
+}
+
+/* Whether the fields that the kind does not use are 0; not so for a kind that is none. */
+static bool unused_zero(uint8_t kind, Name own, Name counterparty, uint32_t number, Amount amount) {
+    switch (kind) {
+    case START_FROM:
+    case START_TO:
+        return true;
+    case DELIVER:
+        return !(counterparty.value | amount.value);
+    case ABORT:
+    case COLLECT:
+        return !(counterparty.value | number | amount.value);
+    case LOSE:
+        return !(own.value | counterparty.value | amount.value);
+    case ISSUE:
+        return !(own.value | number);
+    case LOAD:
+        return !(counterparty.value | number);
+    default:
+        return false;
+    }
+}
+
 /* One event at a table known to keep the rules. */
 static uint8_t act(Purse *table, Desk *desk, const uint8_t *bytes, size_t length) {
     if (length != EVENT_BYTES || bytes[3] != 0)
@@ -308,12 +361,12 @@ static uint8_t act(Purse *table, Desk *desk, const uint8_t *bytes, size_t length
     Name own = {bytes[1]}, counterparty = {bytes[2]};
     uint32_t number = get32(bytes + 4);
     Amount amount = {get32(bytes + 8)};
-    bool starts = kind == START_FROM || kind == START_TO;
-    if (kind < START_FROM || kind > COLLECT || (!starts && (counterparty.value | amount.value)) ||
-        ((kind == ABORT || kind == COLLECT) && number) || (kind == LOSE && own.value))
+    if (!unused_zero(kind, own, counterparty, number, amount))
         return 3;
     if (kind == LOSE)
         return lose(&desk->ether, number);
+    if (kind == ISSUE)
+        return issue(table, desk, counterparty.value, amount);
     if (own.value >= desk->purses)
         return 4;
     Purse *purse = &table[own.value];
@@ -325,6 +378,8 @@ static uint8_t act(Purse *table, Desk *desk, const uint8_t *bytes, size_t length
         return 0;
     case COLLECT:
         return collect(purse, own, &desk->archive);
+    case LOAD:
+        return load(purse, amount);
     default: {
         Seq theirs = {number};
         uint8_t answer =
@@ -367,10 +422,8 @@ uint8_t bench_open(Purse *table, size_t records, Desk *desk, const Amount *balan
     memset(table, 0, PURSES * sizeof *table);
     memset(desk, 0, sizeof *desk);
     desk->purses = (uint8_t)count;
-    for (size_t i = 0; i < count; i++) {
-        table[i].balance = balances[i];
-        table[i].next.value = 1;
-    }
+    for (size_t i = 0; i < count; i++)
+        open_purse(&table[i], balances[i]);
     return 0;
 }
 

@@ -13,6 +13,7 @@
 #include <stdint.h>
 
 enum { PURSES = 32, PLACES = 256, LOG_PLACES = 8, CEILING = 5000000, EVENT_BYTES = 12 };
+enum { PERSON = 0 }; /* the one class until A2 */
 enum { IMAGE_HEAD = 10, RECORD_BYTES = 136, DETAILS_BYTES = 14, PLACE_BYTES = 15 };
 
 typedef struct { uint8_t value; } Name;
@@ -45,14 +46,14 @@ typedef struct { Message places[PLACES]; uint16_t count; } Ether;
 typedef struct { Entry places[PLACES]; uint16_t count; } Archive;
 typedef struct { uint8_t purses; Ether ether; Archive archive; } Desk;
 
-typedef enum { START_FROM = 1, START_TO, DELIVER, ABORT, LOSE, COLLECT } EventKind;
+typedef enum { START_FROM = 1, START_TO, DELIVER, ABORT, LOSE, COLLECT, ISSUE, LOAD } EventKind;
 
-/* What a card is told: kind is START_FROM, START_TO, DELIVER, ABORT or COLLECT. */
+/* What a card is told: kind is START_FROM, START_TO, DELIVER, ABORT, COLLECT or LOAD. */
 typedef struct {
     EventKind kind;
     Name counterparty; /* starts */
     Seq number;        /* starts */
-    Amount amount;     /* starts */
+    Amount amount;     /* starts, load */
     Message message;   /* deliver */
 } CardEvent;
 

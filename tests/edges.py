@@ -1,6 +1,7 @@
 #!/usr/bin/env python3
-"""Document 01's lines "At the edges", each with the answer that the document gives, and claims figures
-by A1 worked out by hand.
+"""Document 01's lines "At the edges", each with the answer that the document gives; the edges of A5's
+issue and load, with answers and what they leave worked out by hand; and claims figures by A1 worked
+out by hand.
 
 Every edge is a bench made by hand, events, and their answers, so that the lines which no list of
 events reaches (next number 4,294,967,294) stand beside the others. Run alone, the script checks the
@@ -19,6 +20,7 @@ class Edge(NamedTuple):
     bench: Bench
     events: list
     answers: list
+    after: Bench = None  # all that the bench then holds, where that is worked out by hand
 
 
 def bench_of(*purses):
@@ -100,6 +102,143 @@ def edges():
     yield Edge("event of 11 bytes", two, [starts(1)[0][:11]], [3])
 
 
+# ---- A5: issue and load
+
+LARGEST = 4_294_967_295
+UNUSED_NUMBERS = [{"number": number} for number in (1, 256, 65536, 16_777_216, LARGEST)]
+
+
+def issue(balance=0, purse_class=0, name=0, number=0):
+    return words.event_bytes(model.ISSUE, name, purse_class, number, balance)
+
+
+def load(name, amount, counterparty=0, number=0):
+    return words.event_bytes(model.LOAD, name, counterparty, number, amount)
+
+
+def busy(status):
+    """A purse 0 in that status, and its partner."""
+    details = Details(1, 1, 0, 1, 5) if status == model.EPV else Details(0, 1, 1, 1, 5)
+    return bench_of(purse(next_number=2)._replace(status=status, details=details), purse())
+
+
+def with_archive(bench, count):
+    """So many entries of purse 1, which stopped as a payer."""
+    bench.table[1] = bench.table[1]._replace(next=count + 1)
+    kept = [Entry(1, Details(1, number, 0, 7, 5)) for number in range(1, count + 1)]
+    bench.archive[:count], bench.archive_count = kept, count
+    return bench
+
+
+def with_purse(bench, name, record):
+    """The bench with this record at that place; one purse more where the place is the next free one."""
+    other = bench.copy()
+    other.table[name] = record
+    other.count = max(bench.count, name + 1)
+    return other
+
+
+def issues():
+    """ "issue 2, 3, 24 (32 purses stand already), 22, 21"; class in the counterparty field """
+    two = bench_of(purse(), purse())
+    nearly, full = bench_of(*[purse()] * 31), bench_of(*[purse()] * 32)
+    yield Edge("31 purses stand, issue", nearly, [issue(7)], [0], with_purse(nearly, 31, purse(7)))
+    yield Edge("32 purses stand, issue", full, [issue(7)], [24], full)
+    yield Edge("32 purses stand, the last of them issued", nearly, [issue(), issue()], [0, 24])
+    for balance in (0, 1, 5_000_000):
+        after = with_purse(two, 2, purse(balance))
+        yield Edge(f"issue {balance:,}", two, [issue(balance)], [0], after)
+    for balance in (5_000_001, 50_000_000, LARGEST):
+        yield Edge(f"issue {balance:,}", two, [issue(balance)], [21], two)
+    for purse_class in (1, 2, 128, 255):
+        yield Edge(f"issue class {purse_class}", two, [issue(7, purse_class)], [22], two)
+        both = [issue(LARGEST, purse_class)]
+        yield Edge(f"issue class {purse_class}, balance too high", two, both, [22], two)
+        yield Edge(f"issue class {purse_class}, 31 purses stand", nearly, both, [22], nearly)
+        yield Edge(f"issue class {purse_class}, 32 purses stand", full, both, [24], full)
+    yield Edge("issue too high, 31 purses stand", nearly, [issue(5_000_001)], [21], nearly)
+    yield Edge("issue too high, 32 purses stand", full, [issue(5_000_001)], [24], full)
+    for bench in (two, full):
+        for unused in [{"name": 1}, {"name": 255}] + UNUSED_NUMBERS:
+            for one in (issue(7, **unused), issue(LARGEST, 9, **unused)):
+                yield Edge(f"issue with {unused}", bench, [one], [3], bench)
+
+
+def loads():
+    """ "load 2, 3, 4, 7, 8, 12" """
+    two = bench_of(purse(), purse(4_999_700))
+    for amount, answer, balance in [
+        (300, 0, 5_000_000),
+        (301, 12, 4_999_700),
+        (299, 0, 4_999_999),
+        (0, 7, 4_999_700),
+        (1, 0, 4_999_701),
+        (5_000_000, 12, 4_999_700),
+        (5_000_001, 7, 4_999_700),
+        (LARGEST, 7, 4_999_700),
+    ]:
+        after = with_purse(two, 1, purse(balance))
+        yield Edge(f"balance 4,999,700, load {amount:,}", two, [load(1, amount)], [answer], after)
+    for balance, amount, answer in [(0, 5_000_000, 0), (1, 5_000_000, 12), (5_000_000, 1, 12)]:
+        alone = bench_of(purse(balance))
+        after = bench_of(purse(5_000_000)) if answer == 0 else alone
+        yield Edge(f"balance {balance:,}, load {amount:,}", alone, [load(0, amount)], [answer], after)
+    for status in (model.EPR, model.EPV, model.EPA):
+        for amount, answer in [(1, 8), (5_000_000, 8), (0, 7), (5_000_001, 7)]:
+            bench = busy(status)
+            yield Edge(f"status {status}, load {amount:,}", bench, [load(0, amount)], [answer], bench)
+            after = with_purse(bench, 1, purse(1000 + amount))
+            if amount == 1:
+                yield Edge(f"the other in {status}, load", bench, [load(1, 1)], [0], after)
+    # no 9 and no 10: next number and log are not looked at
+    late = purse(next_number=LARGEST)
+    logged = with_log(0, 8)
+    for says, record in [
+        ("next 4,294,967,295", late),
+        ("8 log entries", logged),
+        ("next 4,294,967,295 and 8 log entries", logged._replace(next=LARGEST)),
+    ]:
+        bench = bench_of(record, purse())
+        after = with_purse(bench, 0, record._replace(balance=1001))
+        yield Edge(f"{says}, load", bench, [load(0, 1)], [0], after)
+    # neither sends, so neither answers 1, and neither looks at the archive
+    for says, bench in [
+        ("256 messages", with_messages(bench_of(purse(), purse()), model.MESSAGES)),
+        ("256 archive entries", with_archive(bench_of(purse(), purse()), model.ENTRIES)),
+    ]:
+        after = with_purse(with_purse(bench, 0, purse(1001)), 2, purse(7))
+        yield Edge(f"{says}, load and issue", bench, [load(0, 1), issue(7)], [0, 0], after)
+    for name in (2, 31, 32, 255):
+        for amount in (0, 1, LARGEST):
+            yield Edge(f"load at purse {name}", two, [load(name, amount)], [4], two)
+    for unused in [{"counterparty": 1}, {"counterparty": 255}] + UNUSED_NUMBERS:
+        for name, amount in [(0, 1), (0, 0), (255, 1)]:
+            yield Edge(f"load with {unused}", two, [load(name, amount, **unused)], [3], two)
+    # an issued purse is loaded, and not before it is issued
+    after = with_purse(two, 2, purse(12))
+    chain = [load(2, 5), issue(7), load(2, 5), load(3, 5)]
+    yield Edge("load before and after the issue", two, chain, [4, 0, 0, 4], after)
+
+
+def malformed():
+    """ "0 and 7 to 255 are malformed", of which A5 takes 7 and 8 """
+    two = bench_of(purse(), purse())
+    for kind in (0, *range(9, 256)):  # with all else 0, which is no 3 in any kind that is one
+        yield Edge(f"kind {kind}", two, [words.event_bytes(kind)], [3], two)
+    for kind in (model.ISSUE, model.LOAD):
+        one = words.event_bytes(kind, amount=5)
+        spare = one[:3] + b"\1" + one[4:]
+        for wrong in (one[:11], one + b"\0", spare):
+            yield Edge(f"kind {kind}: {wrong.hex()}", two, [wrong], [3], two)
+
+
+def all_edges():
+    yield from edges()
+    yield from issues()
+    yield from loads()
+    yield from malformed()
+
+
 class Figure(NamedTuple):
     says: str
     bench: Bench
@@ -143,14 +282,16 @@ def figures():
 
 def main():
     passed = failed = 0
-    for edge in edges():
+    for edge in all_edges():
         bench = edge.bench.copy()
         got = [model.event(bench, data) for data in edge.events]
-        if got == edge.answers and model.well_formed(bench):
+        left = edge.after is None or edge.after == bench
+        if got == edge.answers and left and model.well_formed(bench):
             passed += 1
         else:
             failed += 1
-            print(f"{edge.says}: expected {edge.answers}, got {got}")
+            says = f"expected {edge.answers}, got {got}" if left else "the bench is left otherwise"
+            print(f"{edge.says}: {says}")
     for figure in figures():
         got = model.claims(figure.bench)
         if got == figure.claims and model.well_formed(figure.bench):

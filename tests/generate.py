@@ -17,7 +17,9 @@ from model import (
     EPR,
     EPV,
     IDLE,
+    ISSUE,
     LAST_NUMBER,
+    LOAD,
     LOG_PLACES,
     LOSE,
     NO_DETAILS,
@@ -103,24 +105,31 @@ def forged(rng, bench):
     return words.event_bytes(rng.choice([START_FROM, START_TO]), name, other, number, amount)
 
 
+def named(rng, bench, names=()):
+    """One of these purses; of all where there are none of these, and now and then none of the table."""
+    if rng.random() < 0.05:
+        return rng.choice([bench.count, 32, 255])
+    return rng.choice(names or range(bench.count))
+
+
 def replay(rng, bench):
     """A message that stands, to a purse that it names or to any."""
     if bench.message_count == 0:
-        return words.event_bytes(DELIVER, rng.randrange(bench.count), number=rng.choice(NUMBERS))
+        return words.event_bytes(DELIVER, named(rng, bench), number=rng.choice(NUMBERS))
     place = rng.randrange(bench.message_count)
     details = bench.messages[place].details
-    name = rng.choice([details.payer, details.payee, rng.randrange(bench.count)])
+    name = named(rng, bench, [details.payer, details.payee, rng.randrange(bench.count)])
     return words.event_bytes(DELIVER, name, number=place)
 
 
 def broken(rng, bench):
     busy = [name for name in range(bench.count) if bench.table[name].status != IDLE]
-    return words.event_bytes(ABORT, rng.choice(busy) if busy else rng.randrange(bench.count))
+    return words.event_bytes(ABORT, named(rng, bench, busy))
 
 
 def collected(rng, bench):
     logged = [name for name in range(bench.count) if bench.table[name].logged]
-    return words.event_bytes(COLLECT, rng.choice(logged) if logged else rng.randrange(bench.count))
+    return words.event_bytes(COLLECT, named(rng, bench, logged))
 
 
 def lost(rng, bench):
@@ -138,25 +147,48 @@ def logging(rng, bench):
     return words.event_bytes(START_TO, name, other, rng.randint(0, 3), rng.randint(1, 2))
 
 
+def issued(rng, bench):
+    """A new purse: mostly a person with a legal first balance, at times both are not."""
+    purse_class = 0 if rng.random() < 0.85 else rng.choice([1, 2, 9, 128, 255])
+    balance = rng.choice([0, 1, 300, 1000, CEILING - 1, CEILING])
+    if rng.random() < 0.2:
+        balance = rng.choice([CEILING + 1, 50_000_000, 50_000_001, 2**31, LAST_NUMBER])
+    return words.event_bytes(ISSUE, counterparty=purse_class, amount=balance)
+
+
+def loaded(rng, bench):
+    """Money for a purse, at times one that is busy or not there: about its room, or any."""
+    name = rng.randrange(bench.count + 1) if rng.random() < 0.95 else rng.randrange(256)
+    room = CEILING - bench.table[name % bench.count].balance
+    about = [max(0, room - 1), room, room + 1]
+    amount = rng.randint(1, 100) if rng.random() < 0.5 else rng.choice(about + AMOUNTS)
+    return words.event_bytes(LOAD, name, amount=amount)
+
+
 def odd(rng, bench):
     """An event with one field changed, or any bytes."""
     if rng.random() < 0.1:
         return rng.randbytes(12)
-    step = rng.choice([honest, forged, replay, broken, collected, lost])
+    step = rng.choice([honest, forged, replay, broken, collected, lost, issued, loaded])
     data = bytearray(step(rng, bench) or bytes(12))
-    data[rng.choice([0, 0, 1, 2, 3, 4, 7, 8, 11])] = rng.choice([0, 1, 6, 7, 8, 32, 128, 255])
+    edges = [0, 1, 6, 7, 8, 9, 32, 128, 255, rng.randrange(256)]
+    data[rng.choice([0, 0, 1, 2, 3, 4, 7, 8, 11])] = rng.choice(edges)
     return bytes(data)
 
 
+# Money from outside in a walk about payments: seldom, since 32 full purses pay little.
+SELDOM = [(issued, 0.2), (loaded, 0.8)]
+
 # Moods of a walk: how often each kind of step is taken.
 MOODS = {
-    "calm": [(honest, 90), (replay, 3), (broken, 1), (collected, 1), (lost, 3), (odd, 2)],
-    "rough": [(honest, 50), (replay, 10), (broken, 12), (collected, 8), (lost, 10), (forged, 10)],
-    "forging": [(honest, 20), (forged, 40), (replay, 10), (broken, 15), (collected, 10), (lost, 5)],
+    "calm": [(honest, 90), (replay, 3), (broken, 1), (collected, 1), (lost, 3), (odd, 2), *SELDOM],
+    "rough": [(honest, 50), (replay, 10), (broken, 12), (collected, 8), (lost, 10), (forged, 10), *SELDOM],
+    "forging": [(honest, 20), (forged, 40), (replay, 10), (broken, 15), (collected, 10), (lost, 5), *SELDOM],
     "filling": [(honest, 75), (logging, 15), (replay, 4), (collected, 3), (forged, 3)],
     "logging": [(logging, 80), (honest, 12), (forged, 5), (collected, 3)],
     "archiving": [(logging, 55), (collected, 35), (honest, 5), (lost, 5)],
-    "archiving-pairs": [(honest, 60), (broken, 20), (collected, 20)],
+    "archiving-pairs": [(honest, 60), (broken, 20), (collected, 20), *SELDOM],
+    "issuing": [(issued, 15), (loaded, 30), (honest, 40), (broken, 8), (collected, 2), (forged, 5)],
     "noise": [(odd, 70), (honest, 20), (forged, 10)],
 }
 
@@ -184,7 +216,10 @@ def walk(rng, bench, mood, length):
 
 def event_of(rng, bench):
     """One event in any mood, now and then cut or with bytes behind it."""
-    data = walk_event(rng, bench, rng.choice(list(MOODS)))
+    mood = rng.choice(list(MOODS))
+    if bench.message_count == model.MESSAGES and rng.random() < 0.5:
+        mood = "filling"  # what is sent then is lost
+    data = walk_event(rng, bench, mood)
     if rng.random() < 0.05:
         return (data + data + bytes(255))[: rng.choice([0, 1, 11, 13, 24, 255])]
     return data
@@ -476,7 +511,7 @@ def damaged_purse(rng, purse, names):
 
 
 def full_log(purse, name, names):
-    """The busy purse with a log of eight entries, each with the purse's own number."""
+    """The purse with a log of eight entries, each with the purse's own number."""
     entries = []
     for number in range(1, LOG_PLACES + 1):
         other = (name + 1) % names
@@ -550,7 +585,8 @@ def unused_place(rng, bench):
     """Something in a place that no count covers."""
     part = rng.choice(["purse", "message", "entry", "log"])
     if part == "purse" and bench.count < model.PURSES:
-        place = rng.randrange(bench.count, model.PURSES)
+        # half of them at the next free place, where an issue would stand
+        place = rng.choice([bench.count, rng.randrange(bench.count, model.PURSES)])
         field = rng.choice(["balance", "next", "status", "logged", "details", "log"])
         one = Details(0, 0, 0, 0, 1)
         to = {"details": one, "log": NO_PURSE.log[1:] + (one,)}.get(field, 1)
@@ -705,10 +741,14 @@ def card_input(rng, bench):
             purse = NO_PURSE._replace(balance=purse.balance, next=rng.choice([1, 7, LAST_NUMBER]))
     elif chance < 0.1:
         name = rng.randrange(model.PURSES)
-    kind = rng.choice([START_FROM, START_TO, DELIVER, DELIVER, ABORT, COLLECT])
+    elif chance < 0.2:
+        purse, says = purse._replace(next=LAST_NUMBER), says + ", the last number"
+    elif chance < 0.25 and purse.status == IDLE:
+        purse, says = full_log(purse, name, model.PURSES), says + ", eight log entries"
+    kind = rng.choice([START_FROM, START_TO, DELIVER, DELIVER, ABORT, COLLECT, LOAD])
     if rng.random() < 0.3:
         purse = purse._replace(status=IDLE, details=NO_DETAILS)
-    other = rng.choice([0, 1, 31, 32, 33, 128, 255, name, rng.randrange(32)])
+    other = rng.choice([0, 1, 31, 32, 33, 128, 255, name, *rng.choices(range(32), k=3)])
     number = rng.choice(NUMBERS)
     amount = rng.choice([start_amount(rng, purse), rng.randint(1, 9)])
     return (name, purse, kind, other, number, amount, card_message(rng, purse, name)), says

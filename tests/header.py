@@ -2,9 +2,10 @@
 """Holds include/prs.h to the Rattle source. Every function that the crates export to C must have its prototype, every struct that crosses
 one its #[repr(C)], the same fields in the same order and of the same types, and an assertion of its size and of each offset with the
 number that C's rules give for the Rattle struct; the header must have nothing beside. Every answer must have the words that docs/RULES.md
-quotes from documents 01 and 02. Last line 'N passed, M failed'; exit status 1 on any failure."""
+quotes from documents 01 and 02; the answers, the kinds of events and of messages and the statuses must be the model's. Last line 'N passed, M failed'; exit status 1 on any failure."""
 import re
 
+import model
 from common import ROOT, finish
 
 HEADER = ROOT / "include/prs.h"
@@ -133,15 +134,33 @@ for claim in wanted_asserts:
 for claim in asserts:
     hold(claim in wanted_asserts, f"asserted, but not so in the crates: {' '.join(claim)}")
 
-rows = {}
+rows = {}  # of each answer the words of all its rows, document 02's beside 01's
 for numbers, words in re.findall(r'^\| ((?:\d+, )*\d+): "(.*?)" \|', (ROOT / "docs/RULES.md").read_text(), re.M):
     for number in numbers.split(", "):
-        rows[int(number)] = rows.get(int(number), "") + " | " + words
+        rows[int(number)] = rows.get(int(number), "") + words + "\n"
 answers = re.search(r"enum prs_answer \{(.*?)\};", whole, re.S).group(1)
 for number, words in re.findall(r"= (\d+),?\s*/\* (.*?) \*/", answers):
     row = rows.pop(int(number), "")
     hold(all(part.removesuffix(" too") in row for part in re.split("[:;] ", words)), f"answer {number}: the header says '{words}', docs/RULES.md '{row}'")
 hold(not rows, f"no words in the header for the answers {sorted(rows)}")
+
+
+def enumerated(name):
+    """The numbers of an enum of the header, PRS_ taken off."""
+    said = re.search(rf"enum {name} \{{(.*?)\}};", header, re.S).group(1)
+    return {word: int(number) for word, number in re.findall(r"PRS_(\w+) = (\d+)", said)}
+
+
+for name, wanted in [
+    ("prs_event_kind", ["START_FROM", "START_TO", "DELIVER", "ABORT", "LOSE", "COLLECT", "ISSUE", "LOAD"]),
+    ("prs_message_kind", ["REQUEST", "VALUE", "ACKNOWLEDGE"]),
+    ("prs_status", ["IDLE", "EPR", "EPV", "EPA"]),
+]:
+    wanted = {word: getattr(model, word) for word in wanted}
+    said = enumerated(name)
+    hold(said == wanted, f"{name}: the header says {said}, the documents {wanted}")
+said = sorted(enumerated("prs_answer").values())
+hold(said == model.ANSWERS, f"answers: the header has {said}, the documents {model.ANSWERS}")
 
 for fault in faults:
     print(f"prs.h: {fault}")

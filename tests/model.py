@@ -18,7 +18,9 @@ PURSES, MESSAGES, ENTRIES = 32, 256, 256
 
 IDLE, EPR, EPV, EPA = range(4)
 REQUEST, VALUE, ACKNOWLEDGE = 1, 2, 3
-START_FROM, START_TO, DELIVER, ABORT, LOSE, COLLECT = range(1, 7)
+START_FROM, START_TO, DELIVER, ABORT, LOSE, COLLECT, ISSUE, LOAD = range(1, 9)
+PERSON = 0  # the one class until A2
+ANSWERS = [*range(0, 23), 24]  # those of document 01, and A5's 22 and 24
 
 
 class Details(NamedTuple):
@@ -73,6 +75,9 @@ class Bench:
         other.message_count, other.messages = self.message_count, self.messages[:]
         other.archive_count, other.archive = self.archive_count, self.archive[:]
         return other
+
+    def __eq__(self, other):
+        return all(getattr(self, part) == getattr(other, part) for part in self.__slots__)
 
     def replace(self, other):
         """Takes over everything the other bench holds."""
@@ -283,6 +288,17 @@ def collect(purse):
     return 0, purse._replace(log=(*others, NO_DETAILS), logged=purse.logged - 1), None, oldest
 
 
+def load(purse, amount):
+    """A5: "Kind 8 loads an idle purse with an amount. [..] load 2, 3, 4, 7, 8, 12" """
+    if amount == 0 or amount > CEILING:
+        return refused(7, purse)
+    if purse.status != IDLE:
+        return refused(8, purse)
+    if purse.balance + amount > CEILING:
+        return refused(12, purse)
+    return 0, purse._replace(balance=purse.balance + amount), None, None
+
+
 # ---- The card alone
 
 
@@ -302,6 +318,8 @@ def card(name, purse, kind, counterparty, number, amount, message):
         answer, after, sent, collected = abort(purse)
     elif kind == COLLECT:
         answer, after, sent, collected = collect(purse)
+    elif kind == LOAD:
+        answer, after, sent, collected = load(purse, amount)
     else:
         raise ValueError(f"a card takes no kind {kind}")
     return answer, after, sent or NO_MESSAGE, collected or NO_DETAILS
@@ -310,6 +328,18 @@ def card(name, purse, kind, counterparty, number, amount, message):
 # ---- Events at the bench
 
 EVENT = struct.Struct(">BBBBII")
+
+# The fields that a kind uses: "Fields a kind doesn't use are 0". Every other kind is malformed.
+USED = {
+    START_FROM: ("purse", "counterparty", "number", "amount"),
+    START_TO: ("purse", "counterparty", "number", "amount"),
+    DELIVER: ("purse", "number"),
+    ABORT: ("purse",),
+    LOSE: ("number",),
+    COLLECT: ("purse",),
+    ISSUE: ("counterparty", "amount"),  # the class and the first balance
+    LOAD: ("purse", "amount"),
+}
 
 
 def event(bench, data):
@@ -324,16 +354,15 @@ def step(bench, data):
     if len(data) != EVENT.size:
         return 3
     kind, name, counterparty, spare, number, amount = EVENT.unpack(data)
-    if not START_FROM <= kind <= COLLECT or spare != 0:
+    fields = {"purse": name, "counterparty": counterparty, "number": number, "amount": amount}
+    if kind not in USED or spare != 0:
         return 3
-    if kind not in (START_FROM, START_TO) and (counterparty != 0 or amount != 0):
-        return 3
-    if kind in (ABORT, COLLECT) and number != 0:
-        return 3
-    if kind == LOSE and name != 0:
+    if any(value != 0 for field, value in fields.items() if field not in USED[kind]):
         return 3
     if kind == LOSE:
         return lose(bench, number)
+    if kind == ISSUE:
+        return issue(bench, counterparty, amount)
     if name >= bench.count:
         return 4
     purse = bench.table[name]
@@ -347,6 +376,8 @@ def step(bench, data):
         answer, after, sent, collected = collect(purse)
         if answer == 0 and bench.archive_count == ENTRIES:
             answer = 15
+    elif kind == LOAD:
+        answer, after, sent, collected = load(purse, amount)
     else:
         answer, after, sent, collected = start(
             kind, name, bench.count, purse, counterparty, number, amount
@@ -378,12 +409,40 @@ def lose(bench, place):
     return 0
 
 
+def issue(bench, purse_class, balance):
+    """A5: "Kind 7 issues a purse at the next free place [..] 24 (32 purses stand already), 22, 21" """
+    if bench.count == PURSES:
+        return 24
+    if purse_class != PERSON:
+        return 22
+    if balance > CEILING:
+        return 21
+    bench.table[bench.count] = opened_purse(balance)
+    bench.count += 1
+    return 0
+
+
+def brought_in(count, data, answer):
+    """A5: "In demand 3 the opening balance, and the opening sum, take in issue balances and loads so
+    far": the purse and the money that an event so answered, at a bench of so many purses, brought in
+    from outside; None where it brought in none."""
+    if answer != 0 or len(data) != EVENT.size:
+        return None
+    kind, name, _, _, _, amount = EVENT.unpack(data)
+    return {ISSUE: (count, amount), LOAD: (name, amount)}.get(kind)
+
+
 def cut(data):
     """A list of events: 12 bytes each, a last one cut short is one too."""
     return [data[at : at + EVENT.size] for at in range(0, len(data), EVENT.size)]
 
 
 # ---- Opening and claims
+
+
+def opened_purse(balance):
+    """ "given balances, next sequence number 1, all idle, no entries" """
+    return NO_PURSE._replace(balance=balance, next=1)
 
 
 def opening(bench, balances):
@@ -394,7 +453,7 @@ def opening(bench, balances):
     opened = Bench()
     opened.count = len(balances)
     for name, balance in enumerate(balances):
-        opened.table[name] = NO_PURSE._replace(balance=balance, next=1)
+        opened.table[name] = opened_purse(balance)
     bench.replace(opened)
     return 0
 

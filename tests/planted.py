@@ -3,6 +3,7 @@
 each built as a stand-in for the two programs and given to the rig, which must fail.
 
     planted.py [NAME ..]     all, or those whose name holds one of the words
+    planted.py --drawn ..    by the drawn requests and lists alone, not the worked cases
 
 The last line is 'N passed, M failed': passed is a planted error that was found.
 """
@@ -17,7 +18,7 @@ PLAIN = ROOT / "benchmarks" / "plain.c"
 BUILT = ROOT / "target" / "planted"
 
 # Name, old text (once in plain.c), new text. The first five are document 01's "Errors that look
-# reasonable"; those named claims are of A1.
+# reasonable"; those named claims are of A1, those named issue or load of A5.
 PLANTED = [
     (
         "log room tested at the abort",
@@ -205,11 +206,13 @@ PLANTED = [
         "    if (!amount_ok(amount))\n"
         "        return 7;\n"
         "    if (purse->status != IDLE)\n"
-        "        return 8;\n",
+        "        return 8;\n"
+        "    if (purse->next",
         "    if (purse->status != IDLE)\n"
         "        return 8;\n"
         "    if (!amount_ok(amount))\n"
-        "        return 7;\n",
+        "        return 7;\n"
+        "    if (purse->next",
     ),
     (
         "last number used",
@@ -284,11 +287,15 @@ PLANTED = [
         "    if (purse->logged == 0)\n"
         "        return 14;\n",
     ),
-    ("purse in lose", " || (kind == LOSE && own.value))", ")"),
+    (
+        "purse in lose",
+        "return !(own.value | counterparty.value | amount.value);",
+        "return !(counterparty.value | amount.value);",
+    ),
     (
         "number in collect",
-        "((kind == ABORT || kind == COLLECT) && number)",
-        "((kind == ABORT) && number)",
+        "return !(counterparty.value | number | amount.value);",
+        "return !(counterparty.value | (kind == ABORT && number) | amount.value);",
     ),
     (
         "spare not tested",
@@ -450,10 +457,282 @@ PLANTED = [
         "    if (purse->status == IDLE || message->kind != expected",
         "    if (message->kind != expected",
     ),
+    (
+        "load at a busy purse",
+        "    if (purse->status != IDLE)\n"
+        "        return 8;\n"
+        "    if (purse->balance.value + amount.value",
+        "    if (purse->balance.value + amount.value",
+    ),
+    (
+        "load at a purse in epa",
+        "    if (purse->status != IDLE)\n"
+        "        return 8;\n"
+        "    if (purse->balance.value + amount.value",
+        "    if (purse->status != IDLE && purse->status != EPA)\n"
+        "        return 8;\n"
+        "    if (purse->balance.value + amount.value",
+    ),
+    (
+        "load at a payee in epv",
+        "    if (purse->status != IDLE)\n"
+        "        return 8;\n"
+        "    if (purse->balance.value + amount.value",
+        "    if (purse->status != IDLE && purse->status != EPV)\n"
+        "        return 8;\n"
+        "    if (purse->balance.value + amount.value",
+    ),
+    (
+        "load: busy before amount",
+        "    if (!amount_ok(amount))\n"
+        "        return 7;\n"
+        "    if (purse->status != IDLE)\n"
+        "        return 8;\n"
+        "    if (purse->balance",
+        "    if (purse->status != IDLE)\n"
+        "        return 8;\n"
+        "    if (!amount_ok(amount))\n"
+        "        return 7;\n"
+        "    if (purse->balance",
+    ),
+    (
+        "load: ceiling before busy",
+        "    if (purse->status != IDLE)\n"
+        "        return 8;\n"
+        "    if (purse->balance.value + amount.value > CEILING)\n"
+        "        return 12;\n",
+        "    if (purse->balance.value + amount.value > CEILING)\n"
+        "        return 12;\n"
+        "    if (purse->status != IDLE)\n"
+        "        return 8;\n",
+    ),
+    (
+        "load: amount not tested",
+        "    if (!amount_ok(amount))\n"
+        "        return 7;\n"
+        "    if (purse->status != IDLE)\n"
+        "        return 8;\n"
+        "    if (purse->balance",
+        "    if (purse->status != IDLE)\n"
+        "        return 8;\n"
+        "    if (purse->balance",
+    ),
+    (
+        "load needs a number",
+        "        return 8;\n"
+        "    if (purse->balance.value",
+        "        return 8;\n"
+        "    if (purse->next.value == UINT32_MAX)\n"
+        "        return 9;\n"
+        "    if (purse->balance.value",
+    ),
+    (
+        "load needs log room",
+        "        return 8;\n"
+        "    if (purse->balance.value",
+        "        return 8;\n"
+        "    if (purse->logged == LOG_PLACES)\n"
+        "        return 10;\n"
+        "    if (purse->balance.value",
+    ),
+    (
+        "load never up to the ceiling",
+        "    if (purse->balance.value + amount.value > CEILING)\n",
+        "    if (purse->balance.value + amount.value >= CEILING)\n",
+    ),
+    (
+        "load cut to the ceiling",
+        "    if (purse->balance.value + amount.value > CEILING)\n"
+        "        return 12;\n"
+        "    purse->balance.value += amount.value;\n",
+        "    purse->balance.value += amount.value;\n"
+        "    if (purse->balance.value > CEILING)\n"
+        "        purse->balance.value = CEILING;\n",
+    ),
+    (
+        "load too high answered 21",
+        "    if (purse->balance.value + amount.value > CEILING)\n"
+        "        return 12;\n",
+        "    if (purse->balance.value + amount.value > CEILING)\n"
+        "        return 21;\n",
+    ),
+    (
+        "load sets the balance",
+        "    purse->balance.value += amount.value;\n"
+        "    return 0;\n"
+        "}\n"
+        "\n"
+        "uint8_t card_step",
+        "    purse->balance.value = amount.value;\n"
+        "    return 0;\n"
+        "}\n"
+        "\n"
+        "uint8_t card_step",
+    ),
+    (
+        "load answers and loads nothing",
+        "    purse->balance.value += amount.value;\n"
+        "    return 0;\n"
+        "}\n"
+        "\n"
+        "uint8_t card_step",
+        "    return 0;\n"
+        "}\n"
+        "\n"
+        "uint8_t card_step",
+    ),
+    (
+        "load uses up a number",
+        "    purse->balance.value += amount.value;\n"
+        "    return 0;\n",
+        "    purse->balance.value += amount.value;\n"
+        "    purse->next.value++;\n"
+        "    return 0;\n",
+    ),
+    (
+        "load at the bench alone",
+        "    case LOAD:\n"
+        "        return load(purse, event->amount);\n",
+        "    case LOAD:\n"
+        "        return 0;\n",
+    ),
+    (
+        "load at the card sends",
+        "    case LOAD:\n"
+        "        return load(purse, event->amount);\n",
+        "    case LOAD:\n"
+        "        handed->sent = event->message;\n"
+        "        return load(purse, event->amount);\n",
+    ),
+    (
+        "load: number not tested",
+        "return !(counterparty.value | number);",
+        "return !counterparty.value;",
+    ),
+    (
+        "load: counterparty not tested",
+        "return !(counterparty.value | number);",
+        "return !number;",
+    ),
+    ("issue: number not tested", "return !(own.value | number);", "return !own.value;"),
+    ("issue: purse not tested", "return !(own.value | number);", "return !number;"),
+    (
+        "issue: number in eight bits",
+        "return !(own.value | number);",
+        "return !(own.value | (uint8_t)number);",
+    ),
+    (
+        "issue over the last record",
+        "    open_purse(&table[desk->purses], balance);\n"
+        "    desk->purses++;\n",
+        "    open_purse(&table[desk->purses - 1], balance);\n",
+    ),
+    (
+        "issue over the first record",
+        "open_purse(&table[desk->purses], balance);",
+        "open_purse(&table[0], balance);",
+    ),
+    ("issue not counted", "    desk->purses++;\n", ""),
+    (
+        "issue up to 31 purses",
+        "    if (desk->purses == PURSES)\n",
+        "    if (desk->purses == PURSES - 1)\n",
+    ),
+    (
+        "issue: 22 before 24",
+        "    if (desk->purses == PURSES)\n"
+        "        return 24;\n"
+        "    if (class != PERSON)\n"
+        "        return 22;\n",
+        "    if (class != PERSON)\n"
+        "        return 22;\n"
+        "    if (desk->purses == PURSES)\n"
+        "        return 24;\n",
+    ),
+    (
+        "issue: 21 before 22",
+        "    if (class != PERSON)\n"
+        "        return 22;\n"
+        "    if (balance.value > CEILING)\n"
+        "        return 21;\n",
+        "    if (balance.value > CEILING)\n"
+        "        return 21;\n"
+        "    if (class != PERSON)\n"
+        "        return 22;\n",
+    ),
+    (
+        "issue: 21 before 24",
+        "    if (desk->purses == PURSES)\n"
+        "        return 24;\n",
+        "    if (balance.value > CEILING && class == PERSON)\n"
+        "        return 21;\n"
+        "    if (desk->purses == PURSES)\n"
+        "        return 24;\n",
+    ),
+    (
+        "issue of a shop before there are shops",
+        "    if (class != PERSON)\n",
+        "    if (class > 1)\n",
+    ),
+    (
+        "issue: class not tested",
+        "    if (class != PERSON)\n"
+        "        return 22;\n",
+        "",
+    ),
+    (
+        "issue: first balance tested as an amount",
+        "    if (balance.value > CEILING)\n"
+        "        return 21;\n"
+        "    open_purse",
+        "    if (!amount_ok(balance))\n"
+        "        return 7;\n"
+        "    open_purse",
+    ),
+    (
+        "issue of nothing refused",
+        "    if (balance.value > CEILING)\n"
+        "        return 21;\n"
+        "    open_purse",
+        "    if (!amount_ok(balance))\n"
+        "        return 21;\n"
+        "    open_purse",
+    ),
+    (
+        "issue up to a shop's ceiling",
+        "    if (balance.value > CEILING)\n"
+        "        return 21;\n"
+        "    open_purse",
+        "    if (balance.value > 10 * CEILING)\n"
+        "        return 21;\n"
+        "    open_purse",
+    ),
+    (
+        "issue with next number 0",
+        "    open_purse(&table[desk->purses], balance);\n",
+        "    table[desk->purses].balance = balance;\n",
+    ),
+    (
+        "issue with the number of the purse before it",
+        "    open_purse(&table[desk->purses], balance);\n",
+        "    open_purse(&table[desk->purses], balance);\n"
+        "    table[desk->purses].next = table[desk->purses - 1].next;\n",
+    ),
+    (
+        "issue: rules not tested",
+        "    if (records != PURSES || !table_ok(table, desk))\n"
+        "        return 2;\n"
+        "    return act(",
+        "    bool issues = length == EVENT_BYTES && bytes[0] == ISSUE && desk->purses < PURSES;\n"
+        "    if (records != PURSES || (!issues && !table_ok(table, desk)))\n"
+        "        return 2;\n"
+        "    return act(",
+    ),
+    ("kind in four bits", "    uint8_t kind = bytes[0];\n", "    uint8_t kind = bytes[0] & 15;\n"),
 ]
 
 
-def found(name, old, new):
+def found(name, old, new, options):
     """Whether the rig fails on the rules with this edit; words where it does not."""
     text = PLAIN.read_text()
     if text.count(old) != 1:
@@ -465,7 +744,7 @@ def found(name, old, new):
         sources = [ROOT / "tests" / "standin" / f"{program}.c", place / "plain.c"]
         compiler = [os.environ.get("CC", "cc"), "-std=c11", "-O2", "-w", "-I", PLAIN.parent]
         subprocess.run([*compiler, "-o", place / program, *sources], check=True)
-    rig = [sys.executable, ROOT / "tests" / "rig.py", "--short", "--stop"]
+    rig = [sys.executable, ROOT / "tests" / "rig.py", "--short", "--stop", *options]
     run = subprocess.run(
         rig + ["--prs", place / "prs", "--probe", place / "probe"],
         stdout=subprocess.PIPE,
@@ -480,10 +759,12 @@ def found(name, old, new):
 
 def main():
     passed = failed = 0
+    options = [word for word in sys.argv[1:] if word == "--drawn"]
+    words = [word for word in sys.argv[1:] if word != "--drawn"]
     for name, old, new in PLANTED:
-        if sys.argv[1:] and not any(word in name for word in sys.argv[1:]):
+        if words and not any(word in name for word in words):
             continue
-        fault = found(name, old, new)
+        fault = found(name, old, new, options)
         if fault is None:
             passed += 1
         else:

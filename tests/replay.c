@@ -156,11 +156,19 @@ static uint8_t opening(bench *b, const uint8_t *input, size_t length, size_t *us
 }
 
 /* Tells the card of the event's purse what the bench was told, where the bench asked it: not where it tested the table (2, 3, 4), the
-   messages (5, or a loss), a counterparty that is not in the table (6) or the archive (15). `stood` is the message at the event's place. */
-static void tell_card(prs_purse *cards, const uint8_t *event, size_t length, prs_message stood, uint8_t answer)
+   messages (5, or a loss), a counterparty that is not in the table (6) or the archive (15). `stood` is the message at the event's place.
+   An issue asks no card: where it is done, the next card, after so many purses, is a new one with the first balance and next number 1. */
+static void tell_card(prs_purse *cards, unsigned purses, const uint8_t *event, size_t length, prs_message stood, uint8_t answer)
 {
     if (length != PRS_EVENT_BYTES || event[0] == PRS_LOSE || (answer >= 2 && answer <= 6) || answer == PRS_ARCHIVE_FULL)
         return;
+    if (event[0] == PRS_ISSUE) {
+        if (answer == PRS_DONE && purses < PRS_RECORDS) {
+            cards[purses].balance.n = big(event + 8);
+            cards[purses].next.n = 1;
+        }
+        return;
+    }
     prs_name own = {event[1]};
     prs_order order = {event[0], {event[2]}, {big(event + 4)}, {big(event + 8)}, stood};
     prs_handed handed = prs_card(&cards[own.n], own, order);
@@ -229,7 +237,9 @@ static void replay(void)
         snprintf(where, sizeof where, "event %lu", (unsigned long)events);
         if (answer >= 2)
             same_bench(&b, &before);
-        tell_card(cards, event, size, stood, answer);
+        same("desk", 0, "purses", b.desk.purses,
+             before.desk.purses + (unsigned)(size == PRS_EVENT_BYTES && event[0] == PRS_ISSUE && answer == PRS_DONE));
+        tell_card(cards, before.desk.purses, event, size, stood, answer);
         there_and_back(&b);
         at += size;
     }
@@ -397,6 +407,50 @@ static void events(void)
     same_bench(&b, &was);
 }
 
+/* One event at a bench, with the answer that it must give; a refused one leaves the bench as it was. */
+static void answered(bench *b, const char *what, uint8_t kind, uint8_t purse, uint8_t counterparty, uint32_t amount, uint8_t answer)
+{
+    uint8_t event[PRS_EVENT_BYTES] = {kind, purse, counterparty, 0, 0, 0, 0, 0, (uint8_t)(amount >> 24), (uint8_t)(amount >> 16),
+                                      (uint8_t)(amount >> 8), (uint8_t)amount};
+    bench was = *b;
+
+    same(what, purse, "answer", prs_event(b->table, PRS_RECORDS, &b->desk, event, PRS_EVENT_BYTES), answer);
+    if (answer >= 2)
+        same_bench(b, &was);
+}
+
+/* 02's A5: the table filled by issues, which then has no free record left, and loads. */
+static void issues_and_loads(void)
+{
+    bench b, wanted;
+    static prs_purse zero;
+
+    strcpy(where, "issues and loads");
+    two_started(&b);
+    wanted = b;
+    answered(&b, "load, busy", PRS_LOAD, 0, 0, 1, 8);
+    answered(&b, "load, busy", PRS_LOAD, 1, 0, 1, 8);
+    answered(&b, "load, no amount", PRS_LOAD, 1, 0, 0, 7);
+    answered(&b, "load, no purse", PRS_LOAD, 2, 0, 1, 4);
+    answered(&b, "load, counterparty", PRS_LOAD, 1, 1, 1, 3);
+    answered(&b, "issue, purse", PRS_ISSUE, 2, 0, 1, 3);
+    answered(&b, "issue, class", PRS_ISSUE, 0, 255, UINT32_MAX, 22);
+    answered(&b, "issue, balance", PRS_ISSUE, 0, 0, PRS_CEILING + 1, 21);
+    for (unsigned i = 2; i < PRS_RECORDS; i++) {
+        answered(&b, "issue", PRS_ISSUE, 0, 0, PRS_CEILING - i, PRS_DONE);
+        answered(&b, "load above the ceiling", PRS_LOAD, (uint8_t)i, 0, i + 1, 12);
+        answered(&b, "load up to the ceiling", PRS_LOAD, (uint8_t)i, 0, i, PRS_DONE);
+        wanted.table[i] = zero;
+        wanted.table[i].balance.n = PRS_CEILING;
+        wanted.table[i].next.n = 1;
+        wanted.desk.purses = (uint8_t)(i + 1);
+        same_bench(&b, &wanted);
+    }
+    answered(&b, "issue, 32 purses stand", PRS_ISSUE, 0, 0, 0, 24);
+    answered(&b, "issue, 32 purses stand", PRS_ISSUE, 0, 255, UINT32_MAX, 24);
+    answered(&b, "load, no purse", PRS_LOAD, PRS_RECORDS, 0, 1, 4);
+}
+
 /* An image that must be refused, with the bench left as it was. */
 static void refused_image(const char *what, const uint8_t *bytes, size_t length, uint8_t answer)
 {
@@ -471,12 +525,37 @@ static void card(void)
     same_details("message", 0, handed.message.details, zero);
     order.kind = PRS_START_TO;
     same("start-to", 0, "answer", prs_card(&b.table[0], own, order).answer, PRS_BAD_COUNTERPARTY);
+    order.kind = PRS_LOAD;
+    same("load of nothing", 0, "answer", prs_card(&b.table[0], own, order).answer, PRS_BAD_AMOUNT);
+    order.amount.n = 1;
+    same("load", 0, "answer", prs_card(&b.table[0], own, order).answer, PRS_BUSY);
+    order.amount.n = 0;
+    order.kind = PRS_START_TO;
     same("own name", 0, "answer", prs_card(&b.table[2], own, order).answer, PRS_NOT_WELL_FORMED);
     same_bench(&b, &was);
     two_started(&b);
     order.kind = PRS_ABORT;
     same("abort", 0, "answer", prs_card(&b.table[0], own, order).answer, PRS_DONE);
     same("own name above 31", 0, "answer", prs_card(&b.table[0], none, order).answer, PRS_NO_PURSE);
+
+    /* a load hands out nothing and changes the balance alone, whatever else the order says */
+    strcpy(where, "loads of a card");
+    was = b;
+    order.kind = PRS_LOAD;
+    order.other.n = 255;
+    order.seq.n = 7;
+    order.amount.n = PRS_CEILING - 1000 + 1;
+    same("load", 0, "answer", prs_card(&b.table[0], own, order).answer, PRS_ABOVE_CEILING);
+    same("own name above 31", 0, "answer", prs_card(&b.table[0], none, order).answer, PRS_NO_PURSE);
+    same_bench(&b, &was);
+    order.amount.n = PRS_CEILING - 1000;
+    handed = prs_card(&b.table[0], own, order);
+    same("load", 0, "answer", handed.answer, PRS_DONE);
+    same("message", 0, "kind", handed.message.kind, 0);
+    same_details("message", 0, handed.message.details, zero);
+    same_details("entry", 0, handed.entry, zero);
+    was.table[0].balance.n = PRS_CEILING;
+    same_bench(&b, &was);
 }
 
 int main(int argc, char **argv)
@@ -486,6 +565,7 @@ int main(int argc, char **argv)
         damaged_benches();
         openings();
         events();
+        issues_and_loads();
         images();
         card();
         printf("%lu comparisons\n", compared);

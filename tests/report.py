@@ -23,6 +23,11 @@ requests, values and acknowledges stand. Differences between 000 and 01 that are
    or 12, and events refused by 3, 5, 14 or 15, are no steps there. Starts refused by 6 (itself), 8
    and 11 and deliveries refused by 13 are taken as steps, which must change nothing.
  - With 256 messages the sent one is dropped at once.
+ - 000 has no issue and no load (02, A5): an accepted one is done to the report's state from outside,
+   between its transitions: a purse as at the beginning is put beside the others, or the balance of an
+   idle purse is raised. So of the two steps themselves nothing is compared; what is compared is that
+   the report's transitions and 01's go on alike with purses issued and loaded. Refused ones are no
+   steps there.
 """
 
 import argparse
@@ -36,12 +41,17 @@ from pathlib import Path
 from common import finish
 import generate
 import model
-from model import ABORT, DELIVER, IDLE, LOSE, START_FROM, START_TO
+from model import ABORT, DELIVER, IDLE, ISSUE, LOAD, LOSE, START_FROM, START_TO
 
 STATUS = {0: "idle", 1: "epr", 2: "epv", 3: "epa"}
 KIND = {1: "req", 2: "val", 3: "ack"}
 RECEIVE = ["recreq", "recval", "recack"]
 NEVER_USED = 10**12  # report numbers from here up stand for numbers that no start uses
+
+
+def report_purse(name, balance):
+    """A purse as it begins, in the report's words."""
+    return f"mk-purse(p({name}), {balance}, {balance}, 1, idle, none, emptyexlog)"
 
 
 class Replay:
@@ -63,7 +73,7 @@ class Replay:
 
     def numbers_used(self, bench, events):
         """The report's number for each number that a start uses: one more for each abort before."""
-        numbers, aborts = {}, [0] * bench.count
+        numbers, aborts = {}, Counter()
         for data in events:
             name = data[1] if len(data) == 12 else 0
             before = bench.table[name].next if name < bench.count else 0
@@ -108,6 +118,11 @@ class Replay:
         elif kind == LOSE and answer == 0:
             told = self.message(stood[number])
             self.steps += [f"drop({told})"] * (1 + self.copies.pop(told, 0))
+        elif kind == ISSUE and answer == 0:
+            self.steps.append(f"issue({report_purse(len(self.report_next), amount)})")
+            self.report_next.append(1)
+        elif kind == LOAD and answer == 0:
+            self.steps.append(f"load(p({name}), {amount})")
 
     def start(self, kind, name, other, number, amount, idle):
         word = "startfrom" if kind == START_FROM else "startto"
@@ -157,10 +172,7 @@ class Replay:
         return purses, {self.message(m) for m in bench.messages[: bench.message_count]}
 
     def command(self):
-        purses = " ; ".join(
-            f"mk-purse(p({name}), {balance}, {balance}, 1, idle, none, emptyexlog)"
-            for name, balance in enumerate(self.first)
-        )
+        purses = " ; ".join(report_purse(name, balance) for name, balance in enumerate(self.first))
         steps = " then ".join(self.steps + ["done"])
         return f"red in REPLAY : replay(sys({purses}, nil), {steps}) .\n"
 
@@ -205,8 +217,10 @@ def results(commands):
 def difference(want, got):
     """The first difference of two states, in words."""
     fields = ["balance", "next number", "status", "details", "log"]
+    if want[0].keys() != got[0].keys():
+        return f"purses: the documents give {sorted(want[0])}, the report {sorted(got[0])}"
     for name, purse in want[0].items():
-        for field, a, b in zip(fields, purse, got[0].get(name, [None] * 5)):
+        for field, a, b in zip(fields, purse, got[0][name]):
             if a != b:
                 return f"purse {name} {field}: document 01 gives {a}, the report {b}"
     if want[1] != got[1]:

@@ -6,11 +6,13 @@ compares every byte that they give.
     rig.py --short                  about half a minute
     rig.py --seed 7 --events 1000000 --requests 100000
     rig.py --prs PATH --probe PATH  other programs
+    rig.py --drawn                  the drawn requests and lists alone, not the worked cases
 
-Parts: the edges of document 01 and claims figures of A1; requests to the probe on right and damaged
-benches, images and records; each field of a state and of a record at each of its edges; the ends of
-the probe's stream; lists of events through the program (accepted and refused ones, replays, losses,
-full logs, archive and ether, bad openings, cut events). vectors.py and examples.sh run the vectors.
+Parts: the edges of document 01 and A5 and claims figures of A1; a bench filled by issues and loads of
+purses in every status (A5); requests to the probe on right and damaged benches, images and records;
+each field of a state and of a record at each of its edges; the ends of the probe's stream; lists of
+events through the program (accepted and refused ones, replays, losses, full logs, archive, ether and
+table, bad openings, cut events). vectors.py and examples.sh run the vectors.
 
 A failure says the seed, the case and the first difference, and keeps the input under target/rig.
 The last line is 'N passed, M failed'; the exit status is 1 on any failure.
@@ -29,7 +31,7 @@ from collections import Counter
 from pathlib import Path
 
 from common import PROBE, PRS, ROOT, finish, words
-from edges import edges, figures
+from edges import all_edges, figures
 import generate
 import model
 from model import ENTRIES, LOG_PLACES, MESSAGES, PURSES, RECORD_SIZE
@@ -118,7 +120,9 @@ def difference(want, got, layout):
 
 # ---- Events in words
 
-KINDS = {1: "start-from", 2: "start-to", 3: "deliver", 4: "abort", 5: "lose", 6: "collect"}
+NAMES = ["start-from", "start-to", "deliver", "abort", "lose", "collect", "issue", "load"]
+KINDS = dict(enumerate(NAMES, 1))
+CARD_KINDS = [1, 2, 3, 4, 6, 8]
 
 
 def told(data):
@@ -148,10 +152,11 @@ def state_bytes(bench):
 
 class Request:
     """One request to the probe with the reply that the model expects, and words about it. `faults`
-    gives the rules that the bench, stored bench or record does not keep."""
+    gives the rules that the bench, stored bench or record does not keep, `kind` that of the event or
+    of the card's step."""
 
-    def __init__(self, letter, bench, body, reply, says, faults=()):
-        self.letter, self.bench, self.says = letter, bench, says
+    def __init__(self, letter, bench, body, reply, says, faults=(), kind=None):
+        self.letter, self.bench, self.says, self.kind = letter, bench, says, kind
         self.bytes = letter.encode() + body
         self.reply = reply
         self.faults = faults
@@ -173,7 +178,8 @@ def event_request(bench, data, says):
     answer = model.event(after, data)
     body = state_bytes(bench) + bytes([len(data)]) + data
     reply = bytes([answer]) + state_bytes(after)
-    return Request("E", bench, body, reply, f"{told(data)}, {says}", model.faults(bench))
+    kind = data[0] if data else None
+    return Request("E", bench, body, reply, f"{told(data)}, {says}", model.faults(bench), kind)
 
 
 def opening_request(bench, balances, says):
@@ -232,7 +238,8 @@ def card_request(told_to_card, says):
     reply += model.marked_bytes([sent]) + model.details_bytes(collected)
     about = f"own name {name}, {KINDS[kind]}, counterparty {counterparty}, number {number}"
     faults = model.purse_faults(name, purse, PURSES)
-    return Request("P", None, body, reply, f"{about}, amount {amount}, {message}, {says}", faults)
+    about += f", amount {amount}, {message}, {says}"
+    return Request("P", None, body, reply, about, faults, kind)
 
 
 def counts_kept(bench):
@@ -432,19 +439,27 @@ def run_programs(prs, events, tally, answers):
     return done, case
 
 
+def ask_event(probe, tally, case, bench, data, answer, says, after=None):
+    """One event with the answer worked out by hand, and what the bench holds after it where that is
+    too; the bench takes it."""
+    request = event_request(bench, data, says)
+    got = probe.ask(request)
+    fault = request.difference(got)
+    if fault is None and got[0] != answer:
+        fault = f"the documents say {answer}, got {got[0]}"
+    if fault is None and after is not None and got[1:] != state_bytes(after):
+        fault = "the documents leave another bench"
+    tally.count(case, fault and f"{request.says}: {fault}", request.bytes)
+    model.event(bench, data)
+
+
 def run_edges(probe, tally):
-    for place, edge in enumerate(edges(), 1):
+    for place, edge in enumerate(all_edges(), 1):
         bench = edge.bench.copy()
-        for data, answer in zip(edge.events, edge.answers):
-            request = event_request(bench, data, edge.says)
-            got = probe.ask(request)
-            fault = request.difference(got)
-            if fault is None and got[0] != answer:
-                fault = f"document 01 says {answer}, got {got[0]}"
-            if fault is not None:
-                fault = f"{edge.says}: {fault}"
-            tally.count(f"edge {place}", fault, request.bytes)
-            model.event(bench, data)
+        for data, answer in zip(edge.events[:-1], edge.answers):
+            ask_event(probe, tally, f"edge {place}", bench, data, answer, edge.says)
+        last, answer = edge.events[-1], edge.answers[-1]
+        ask_event(probe, tally, f"edge {place}", bench, last, answer, edge.says, edge.after)
     for place, figure in enumerate(figures(), 1):
         request = claims_request(figure.bench, figure.says)
         got = probe.ask(request)
@@ -452,6 +467,54 @@ def run_edges(probe, tally):
         if fault is None and got != struct.pack(">BI", 0, figure.claims):
             fault = f"A1 says {figure.claims}, got {got.hex()}"
         tally.count(f"figure {place}", fault and f"{figure.says}: {fault}", request.bytes)
+
+
+def run_filling(probe, tally):
+    """A5: from one purse to 32 by issues, at every number of purses with the refusals of an issue and
+    a load of the purse that was issued last, of the next free place and of the first purse."""
+    bench = model.Bench()
+    model.opening(bench, [1000])
+    event = words.event_bytes
+    for purses in range(1, PURSES + 1):
+        full = purses == PURSES
+        asked = [
+            (event(7, 0, 9, 0, model.LAST_NUMBER), 24 if full else 22),
+            (event(7, 0, 1, 0, 50_000_000), 24 if full else 22),
+            (event(7, 0, 0, 0, 5_000_001), 24 if full else 21),
+            (event(7, 0, 0, 1, 0), 3),
+            (event(7, purses, 0, 0, 0), 3),
+            (event(8, purses, 0, 0, 0), 4),
+            (event(8, purses - 1, 0, 0, 3), 0),
+            (event(8, 0, 0, 0, 5_000_000), 12),
+            (event(7, 0, 0, 0, purses), 24 if full else 0),
+        ]
+        for place, (data, answer) in enumerate(asked, 1):
+            case = f"filling {purses} {place}"
+            ask_event(probe, tally, case, bench, data, answer, f"{purses} purses")
+    balances = [purse.balance for purse in bench.table]
+    wanted = [1003] + [name + 3 for name in range(1, PURSES)]
+    tally.count("filling", None if balances == wanted else f"the model leaves {balances}")
+
+
+def run_loads(probe, tally):
+    """A5: loads of each purse of the swept bench, in every status, about its room and the ceiling, as
+    events and at its card."""
+    bench = swept_bench()
+    for name in range(bench.count):
+        purse = bench.table[name]
+        room = model.CEILING - purse.balance
+        amounts = {0, 1, room - 1, room, room + 1, *generate.AMOUNTS}
+        for amount in sorted(amount for amount in amounts if amount >= 0):
+            data = words.event_bytes(model.LOAD, name, amount=amount)
+            message = model.Message(generate.EXPECTED.get(purse.status, 1), purse.details)
+            says = f"status {purse.status}, room {room}"
+            for request in (
+                event_request(bench, data, says),
+                card_request((name, purse, model.LOAD, 255, 7, amount, message), says),
+            ):
+                fault = request.difference(probe.ask(request))
+                case = f"load {name} {amount} {request.letter}"
+                tally.count(case, fault and f"{request.says}: {fault}", request.bytes)
 
 
 def state_of(data):
@@ -544,7 +607,7 @@ def run_sweep(probe, tally, alone):
         expected = model.Message(generate.EXPECTED.get(purse.status, 1), purse.details)
         changes = changed_at_edges(model.record_bytes(purse), record_layout("record"), bool)
         for case, (data, says) in enumerate(changes, 1):
-            kind = [1, 2, 3, 4, 6][case % 5]
+            kind = CARD_KINDS[case % len(CARD_KINDS)]
             record = model.record_of(data)
             request = card_request((name, record, kind, 5 - name, 1, 1, expected), says)
             fault = request.difference(probe.ask(request))
@@ -577,6 +640,8 @@ def run_requests(probe, requests, tally, seen, alone, pairs):
             fault = f"{request.letter} ({request.says}): {fault}"
         tally.count(case, fault, request.bytes)
         seen[request.letter, request.reply[0]] += 1
+        if request.kind is not None:
+            seen[request.letter, request.kind, request.reply[0]] += 1
         if request.letter == "C" and request.reply[0] == 0:
             pairs.update(set(pair_places(request.bench)))
         rule = request.broken_alone()
@@ -602,7 +667,7 @@ def run_ends(path, tally):
         last = drawn_request(rng, pool).bytes
         tails = [b"", b"X", b"e", b"\0", last[: rng.randrange(1, len(last))], last[:-1]]
         card = card_request(*generate.card_input(rng, pool.bench(rng)[0])).bytes
-        for kind in (0, 5, 7, 255):
+        for kind in (0, 5, 7, 9, 255):
             tails.append(card[: 2 + RECORD_SIZE] + bytes([kind]) + card[3 + RECORD_SIZE :])
         tail = tails[case % len(tails)]
         data = b"".join(request.bytes for request in requests) + tail
@@ -620,12 +685,31 @@ def run_ends(path, tally):
 
 # Every answer number that each entry can give.
 ANSWERS = {
-    "E": range(0, 16),
+    "E": [*range(0, 16), 21, 22, 24],
     "O": [0, 20, 21],
     "R": [0, 2, 16, 17, 18],
     "W": [0, 2, 19],
     "C": [0, 2],
     "P": [0, 2, 4, 6, 7, 8, 9, 10, 11, 12, 13, 14],
+}
+
+# Every answer number that each kind of event, and of card step, can give.
+STARTS = [3, 4, 6, 7, 8, 9, 10]
+KIND_ANSWERS = {
+    ("E", 1): [0, *STARTS, 11],
+    ("E", 2): [0, 1, *STARTS, 12],
+    ("E", 3): [0, 1, 3, 4, 5, 13],
+    ("E", 4): [0, 3, 4],
+    ("E", 5): [0, 3, 5],
+    ("E", 6): [0, 3, 4, 14, 15],
+    ("E", 7): [0, 3, 21, 22, 24],
+    ("E", 8): [0, 3, 4, 7, 8, 12],
+    ("P", 1): [0, 2, 4, 6, 7, 8, 9, 10, 11],
+    ("P", 2): [0, 2, 4, 6, 7, 8, 9, 10, 12],
+    ("P", 3): [0, 2, 4, 13],
+    ("P", 4): [0, 2, 4],
+    ("P", 6): [0, 2, 4, 14],
+    ("P", 8): [0, 2, 4, 7, 8, 12],
 }
 
 # Every rule, in the model's words: about one purse alone; about what an image holds beside the
@@ -679,14 +763,18 @@ PAIRS = ["card and card", "card and archive", "archive and card", "archive and a
 
 
 def check_reach(tally, seen, alone, pairs):
-    """The rig's own reach: every answer was given, every rule was broken alone, and claims were asked
-    for with pairs that stand in every way."""
+    """The rig's own reach: every answer was given, of every kind of event and of card step too, every
+    rule was broken alone, and claims were asked for with pairs that stand in every way."""
     missed = [way for way in PAIRS if not pairs[way]]
     tally.count("reach pairs", f"no claims were asked for with {missed}" if missed else None)
     for letter, numbers in ANSWERS.items():
         missed = [number for number in numbers if not seen[letter, number]]
         fault = f"no request {letter} was drawn with the answers {missed}" if missed else None
         tally.count(f"reach {letter}", fault)
+    for (letter, kind), numbers in KIND_ANSWERS.items():
+        missed = [number for number in numbers if not seen[letter, kind, number]]
+        fault = f"no {KINDS[kind]} was drawn at {letter} with the answers {missed}" if missed else None
+        tally.count(f"reach {letter} {kind}", fault)
     every = PURSE_RULES + IMAGE_RULES + STATE_RULES
     rules = {"E": every, "W": every, "C": every, "R": PURSE_RULES + IMAGE_RULES, "P": PURSE_RULES}
     for letter, listed in rules.items():
@@ -703,6 +791,7 @@ def main():
     options.add_argument("--events", type=int, default=300_000, help="events through the program")
     options.add_argument("--requests", type=int, default=40_000, help="requests to the probe")
     options.add_argument("--short", action="store_true", help="fewer of both")
+    options.add_argument("--drawn", action="store_true", help="the drawn cases alone")
     options.add_argument("--stop", action="store_true", help="stop at the first failure")
     options.add_argument("--prs", default=PRS, help="the bench program")
     options.add_argument("--probe", default=PROBE, help="the probe")
@@ -717,9 +806,13 @@ def main():
     answers, seen, alone, pairs = Counter(), Counter(), Counter(), Counter()
     print(f"seed {asked.seed}")
     probe = Probe(asked.probe)
-    run_edges(probe, tally)
+    if not asked.drawn:
+        run_edges(probe, tally)
+        run_filling(probe, tally)
+        run_loads(probe, tally)
     run_requests(probe, asked.requests, tally, seen, alone, pairs)
-    run_sweep(probe, tally, alone)
+    if not asked.drawn:
+        run_sweep(probe, tally, alone)
     left, status = probe.end()
     ended = f"wrote {len(left)} bytes more and ended with {status}" if left or status != 0 else None
     tally.count("end of the requests", ended)
@@ -731,7 +824,7 @@ def main():
     done, lists = run_programs(asked.prs, asked.events, tally, answers)
     print(f"{done} events in {lists} inputs through the program; answers:")
     print("  " + ", ".join(f"{answer}: {count}" for answer, count in sorted(answers.items())))
-    if asked.requests >= REACHING:
+    if asked.requests >= REACHING and not asked.drawn:
         check_reach(tally, seen, alone, pairs)
     finish(tally.passed, tally.failed)
 

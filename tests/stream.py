@@ -1,5 +1,5 @@
 #!/usr/bin/env python3
-"""Writes the probe's small stream of requests and the replies that document 01 asks for, by the model: crates/probe/stdin and stdout.
+"""Writes the probe's small stream of requests and the replies that the documents ask for, by the model: crates/probe/stdin and stdout.
 With --check it only compares them with what stands there. Last line 'N passed, M failed'."""
 import sys
 
@@ -9,7 +9,7 @@ from rig import card_request, claims_request, event_request, opening_request, re
 
 
 def stream():
-    """The worked listing's transfer to its break, at each step by another letter, with a refusal of each."""
+    """The worked listing's transfer to its break, a purse issued and one loaded, at each step by another letter, with a refusal of each."""
     bench = model.Bench()
     yield opening_request(bench, [], "none")
     yield opening_request(bench, [1000, 5_000_001], "one too high")
@@ -24,6 +24,10 @@ def stream():
         "abort 0",
         "collect 0",
         "collect 1",
+        "bytes 07 00 00 00 00 00 00 00 00 00 00 05",
+        "bytes 07 00 01 00 00 00 00 00 02 fa f0 80",
+        "bytes 08 02 00 00 00 00 00 00 00 00 00 07",
+        "bytes 08 02 00 00 00 00 00 00 00 4c 4b 40",
     ]:
         data = words.line_bytes(line)
         yield event_request(bench, data, line)
@@ -36,7 +40,7 @@ def stream():
     yield read_request(bench, b"Q" + image[1:], "another mark")
     purse = bench.table[0]
     nothing = model.Message(0, model.Details(0, 0, 0, 0, 0))
-    for kind, other, name in [(2, 1, 0), (1, 0, 0), (4, 0, 0), (3, 0, 0), (6, 0, 40)]:
+    for kind, other, name in [(2, 1, 0), (1, 0, 0), (4, 0, 0), (3, 0, 0), (6, 0, 40), (8, 1, 0), (8, 0, 40)]:
         yield card_request((name, purse, kind, other, 7, 300, nothing), "the payer's record")
 
 

@@ -122,7 +122,7 @@ static void card(void) {
     Purse purse;
     unpack_record(&purse, request + 1);
     const uint8_t *from = request + 1 + RECORD_BYTES;
-    if (from[0] < START_FROM || from[0] > COLLECT || from[0] == LOSE)
+    if (from[0] < START_FROM || from[0] > LOAD || from[0] == LOSE || from[0] == ISSUE)
         exit(0);
     CardEvent told = {.kind = from[0],
                       .counterparty = {from[1]},
