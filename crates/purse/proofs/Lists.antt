@@ -49,6 +49,17 @@ module _ {A : Type 0} where
   at-any (x ∷ l) zero y z h = refl
   at-any (x ∷ l) (suc i) y z h = at-any l i y z (omega arith)
 
+  -- one more at the end: read there, and anywhere else
+  pub read-end : (l : List A) (x z : A) → getD (l ++ (x ∷ [])) (length l) z ≡ x
+  read-end [] x z = refl
+  read-end (y ∷ l) x z = read-end l x z
+
+  pub read-before : (l : List A) (x z : A) (i : ℕ) → (i ≡ length l → ⊥) → getD (l ++ (x ∷ [])) i z ≡ getD l i z
+  read-before [] x z zero other = absurd (other refl)
+  read-before [] x z (suc i) other = refl
+  read-before (y ∷ l) x z zero other = refl
+  read-before (y ∷ l) x z (suc i) other = read-before l x z i (λ (e : i ≡ length l). other (ap suc e))
+
   -- as many as there are, at most
   pub take-least : (n m : ℕ) (l : List A) → length l ≤ m → take (min n m) l ≡ take n l
   take-least n m l h =

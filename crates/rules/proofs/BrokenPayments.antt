@@ -13,14 +13,14 @@ use Rattle.purse.specs.declared.Purse.{Purse}
 use Rattle.purse.specs.Lists.{padded}
 use Rattle.purse.specs.Details.{value, acknowledge, zeroDetails, sameDetails, sameMessage, legal, named, asPayer, asPayee, entryOk, absent}
 use Rattle.purse.specs.Purse.{idle, epv, logPlaces, idleOk, busyOk, placeOk, logOk, wellFormed}
-use Rattle.purse.specs.Step.{startNumber, fromNumber, toNumber, expected, deliverNumber, abortNumber, collectNumber, startFrom, startTo, deliverTo, abortBy, collectBy, loadNumber, loadBy}
+use Rattle.purse.specs.Step.{startNumber, fromNumber, toNumber, expected, deliverNumber, abortNumber, collectNumber, startFrom, startTo, deliverTo, abortBy, collectBy}
 use Rattle.desk.specs.declared.Entry.{Entry}
 use Rattle.rules.specs.Bench.{Bench, called, loggedBy}
 use Rattle.rules.specs.Table.{countsOk, inTable, purseOk, messageOk, archiveOk, onceOk, clearOk, tableOk}
 use Rattle.rules.specs.Events.{decoded}
 use Rattle.rules.specs.Steps.{acting, step}
 use Rattle.rules.specs.Run.{run, answers}
-use Rattle.rules.specs.Paid.{amountOf, sumOf, added, effectBy, paid, arrived, matched, claims, abortOf}
+use Rattle.rules.specs.Paid.{amountOf, effectBy, paid, arrived, matched, claims, abortOf}
 use Rattle.rules.proofs.Samples.{event, from, to, delivery, payment}
 use Rattle.rules.proofs.Listing.{start, events}
 
@@ -109,9 +109,6 @@ crossed =
 abbrev collected : List (List ℕ)
 collected = crossed ++ (collection 0 ∷ collection 1 ∷ [])
 
-abbrev grown : List (List ℕ)
-grown = event 7 0 0 0 50 ∷ event 8 2 0 0 25 ∷ event 8 1 0 0 5000000 ∷ []
-
 pub record Worked : Type 0 where
   -- the value is taken: the money arrives, the message stays and the acknowledge stands behind it, 300 has arrived
   pub taken-balances : balances (step waiting (delivery 1 0) .bench) ≡ 1000 ∷ 500 ∷ []
@@ -144,12 +141,9 @@ pub record Worked : Type 0 where
   pub crossed-matched : amounts (matched (run start crossed) 0) ≡ []
   pub crossed-claims : claims (run start crossed) ≡ 0
   pub crossed-archived : claims (run start collected) ≡ 0
-  -- 02, A5: a purse issued with 50 and loaded with 25, beside a load that is refused
-  pub grown-balances : balances (run start grown) ≡ 1000 ∷ 200 ∷ 75 ∷ []
-  pub grown-added : map sumOf (added start grown) ≡ 50 ∷ 25 ∷ []
 
 pub worked : Worked
-unfolding sameDetails legal named asPayer asPayee entryOk absent idleOk busyOk placeOk logOk wellFormed startNumber fromNumber toNumber expected deliverNumber abortNumber collectNumber startFrom startTo deliverTo abortBy collectBy loadNumber loadBy sameMessage countsOk inTable purseOk messageOk archiveOk onceOk clearOk tableOk decoded numberAt acting step claims effectBy
+unfolding sameDetails legal named asPayer asPayee entryOk absent idleOk busyOk placeOk logOk wellFormed startNumber fromNumber toNumber expected deliverNumber abortNumber collectNumber startFrom startTo deliverTo abortBy collectBy sameMessage countsOk inTable purseOk messageOk archiveOk onceOk clearOk tableOk decoded numberAt acting step claims effectBy
 worked =
     record {
       taken-balances = refl;
@@ -175,6 +169,4 @@ worked =
       crossed-matched = refl;
       crossed-claims = refl;
       crossed-archived = refl;
-      grown-balances = refl;
-      grown-added = refl;
     }

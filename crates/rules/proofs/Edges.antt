@@ -3,13 +3,12 @@
 use Prim.Native.Nat.{ℕ, zero, suc}
 use mathlib.Core.Path.{_≡_, refl}
 use mathlib.Core.List.{List, [], _∷_, map}
-use lib.ListN.{replicate}
 use Rattle.bigendian.specs.Bytes.{numberAt}
 use Rattle.purse.specs.declared.Message.{Message}
 use Rattle.purse.specs.Lists.{padded}
 use Rattle.purse.specs.Details.{zeroDetails, sameDetails, sameMessage, legal, named, asPayer, asPayee, entryOk, absent}
 use Rattle.purse.specs.Purse.{logPlaces, idleOk, busyOk, placeOk, logOk, wellFormed}
-use Rattle.purse.specs.Step.{startNumber, fromNumber, toNumber, expected, deliverNumber, abortNumber, collectNumber, startFrom, startTo, deliverTo, abortBy, collectBy, loadNumber, loadBy}
+use Rattle.purse.specs.Step.{startNumber, fromNumber, toNumber, expected, deliverNumber, abortNumber, collectNumber, startFrom, startTo, deliverTo, abortBy, collectBy}
 use Rattle.desk.specs.declared.Entry.{Entry}
 use Rattle.rules.specs.Bench.{Bench, called}
 use Rattle.rules.specs.Table.{countsOk, inTable, purseOk, messageOk, archiveOk, onceOk, clearOk, tableOk}
@@ -24,7 +23,7 @@ pub record Case : Type 0 where
   pub event : List ℕ
   pub number : ℕ
 
-abbrev at : Bench → List ℕ → ℕ → Case
+abbrev pub at : Bench → List ℕ → ℕ → Case
 at b e n = record { bench = b; event = e; number = n }
 
 -- purse 0 has paid 300 to purse 1, and the value has arrived
@@ -105,31 +104,6 @@ further =
     -- archive full
     ∷ at crowd (event 6 0 0 0 0) 15
     ∷ []
-
--- 02, A5: issue and load
-abbrev many : ℕ → Bench
-many n = opened (replicate n 7)
-
-abbrev pub issues : List Case
-issues =
-    at (many 31) (event 7 0 0 0 0) 0
-    ∷ at (many 32) (event 7 0 1 0 5000001) 24
-    ∷ at (many 31) (event 7 0 1 0 5000001) 22
-    ∷ at (many 31) (event 7 0 0 0 5000001) 21
-    ∷ at (many 31) (event 7 0 0 0 5000000) 0
-    ∷ at (many 31) (event 7 1 0 0 5) 3
-    ∷ at (many 31) (event 7 0 0 1 5) 3
-    ∷ at (many 2) (event 8 2 0 0 0) 4
-    ∷ at (many 2) (event 8 1 0 0 0) 7
-    ∷ at (many 2) (event 8 1 0 0 4999993) 0
-    ∷ at (many 2) (event 8 1 0 0 4999994) 12
-    ∷ at (run (many 2) (from 1 0 5 ∷ [])) (event 8 1 0 0 5000000) 8
-    ∷ at (many 2) (event 8 1 1 0 5) 3
-    ∷ []
-
-pub issue-edges : map (λ (c : Case). step (c .bench) (c .event) .answer) issues ≡ map (λ (c : Case). c .number) issues
-unfolding sameDetails legal named asPayer asPayee entryOk absent idleOk busyOk placeOk logOk wellFormed startNumber fromNumber toNumber expected deliverNumber abortNumber collectNumber startFrom startTo deliverTo abortBy collectBy loadNumber loadBy sameMessage countsOk inTable purseOk messageOk archiveOk onceOk clearOk tableOk decoded numberAt acting step
-issue-edges = refl
 
 pub further-edges : map (λ (c : Case). step (c .bench) (c .event) .answer) further ≡ map (λ (c : Case). c .number) further
 unfolding sameDetails legal named asPayer asPayee entryOk absent idleOk busyOk placeOk logOk wellFormed startNumber fromNumber toNumber expected deliverNumber abortNumber collectNumber startFrom startTo deliverTo abortBy collectBy sameMessage countsOk inTable purseOk messageOk archiveOk onceOk clearOk tableOk decoded numberAt acting step

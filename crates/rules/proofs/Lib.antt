@@ -1,5 +1,6 @@
 pub mod Samples
 pub mod Edges
+pub mod Issued
 pub mod Listing
 pub mod BrokenTables
 pub mod BrokenPayments

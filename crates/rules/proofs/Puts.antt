@@ -1,7 +1,7 @@
 -- What keeps the table's rules: one purse replaced, a message or an entry put at the end, a message taken out.
 -- Assumes nothing.
-use Prim.Native.Nat.{ℕ, zero, suc, _+_, _≤_, _<_}
-use mathlib.Core.Path.{_≡_, refl, _∙_, sym, ap, subst₂}
+use Prim.Native.Nat.{ℕ, suc, _+_, _≤_, _<_}
+use mathlib.Core.Path.{_≡_, _∙_, sym, ap, subst₂}
 use mathlib.Core.Bool.{true, false, cond}
 use mathlib.Core.Logic.{inl, inr, ⊎-elim}
 use mathlib.Core.List.{List, [], _∷_, _++_}
@@ -17,24 +17,13 @@ use Rattle.purse.specs.Details.{zeroMessage, sameDetails, sameMessage}
 use Rattle.purse.specs.Purse.{wellFormed, zeroPurse}
 use Rattle.purse.specs.Lists.{without}
 use Rattle.purse.proofs.Bools.{which}
+use Rattle.purse.proofs.Lists.{read-end, read-before}
 use Rattle.purse.proofs.Payments.{entry-later}
 use Rattle.purse.proofs.Count.{bit, bit-le, times-append, times-split}
 use Rattle.desk.specs.declared.Entry.{Entry}
 use Rattle.rules.specs.Bench.{Bench, called, purseAt, running, kept, archivedBy, isAt}
 use Rattle.rules.specs.Steps.{withPurse, withMessages, withArchive}
 use Rattle.rules.proofs.Facts.{details-equal, message-equal, countD, countM, InTable, MessageOk, ClearOk, EntryOk, Table}
-
-module _ {A : Type 0} where
-  -- a list with one more at its end
-  getD-last : (l : List A) (q z : A) → getD (l ++ (q ∷ [])) (length l) z ≡ q
-  getD-last [] q z = refl
-  getD-last (x ∷ l) q z = getD-last l q z
-
-  getD-before : (l : List A) (q z : A) (k : ℕ) → (k ≡ length l → ⊥) → getD (l ++ (q ∷ [])) k z ≡ getD l k z
-  getD-before [] q z zero n = absurd (n refl)
-  getD-before [] q z (suc k) n = refl
-  getD-before (x ∷ l) q z zero n = refl
-  getD-before (x ∷ l) q z (suc k) n = getD-before l q z k (λ (e : k ≡ length l). n (ap suc e))
 
 -- the purses ps are those of b but for place p, an old one or the next free one, where q stands
 pub record Replaced (b : Bench) (p : ℕ) (q : Purse) (ps : List Purse) : Type 0 where
@@ -57,8 +46,8 @@ pub new-replaced : (b : Bench) (q : Purse) → Replaced b (length (b .purses)) q
 new-replaced b q =
     let long : length (b .purses ++ (q ∷ [])) ≡ length (b .purses) + 1 = length-append (b .purses) (q ∷ []) in
     record {
-      here = getD-last (b .purses) q zeroPurse;
-      other = λ k e. getD-before (b .purses) q zeroPurse k e;
+      here = read-end (b .purses) q zeroPurse;
+      other = λ k e. read-before (b .purses) q zeroPurse k e;
       more = omega arith;
       only = λ k l e. omega arith;
     }
