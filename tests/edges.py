@@ -131,7 +131,7 @@ def with_archive(bench, count):
 
 
 def with_purse(bench, name, record):
-    """The bench with this record at that place; one purse more where the place is the next free one."""
+    """The bench with this record at that place, which may be the next free one."""
     other = bench.copy()
     other.table[name] = record
     other.count = max(bench.count, name + 1)

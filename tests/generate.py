@@ -106,7 +106,7 @@ def forged(rng, bench):
 
 
 def named(rng, bench, names=()):
-    """One of these purses; of all where there are none of these, and now and then none of the table."""
+    """One of these purses, of all where these are none; now and then no purse of the table."""
     if rng.random() < 0.05:
         return rng.choice([bench.count, 32, 255])
     return rng.choice(names or range(bench.count))
@@ -120,6 +120,17 @@ def replay(rng, bench):
     details = bench.messages[place].details
     name = named(rng, bench, [details.payer, details.payee, rng.randrange(bench.count)])
     return words.event_bytes(DELIVER, name, number=place)
+
+
+def awaited(rng, bench):
+    """What some busy purse waits for, delivered to it; None where no such message stands."""
+    busy = [name for name in range(bench.count) if bench.table[name].status != IDLE]
+    rng.shuffle(busy)
+    for name in busy:
+        wanted = Message(EXPECTED[bench.table[name].status], bench.table[name].details)
+        if wanted in bench.messages:
+            return words.event_bytes(DELIVER, name, number=bench.messages.index(wanted))
+    return None
 
 
 def broken(rng, bench):
@@ -176,21 +187,21 @@ def odd(rng, bench):
     return bytes(data)
 
 
-# Money from outside in a walk about payments: seldom, since 32 full purses pay little.
-SELDOM = [(issued, 0.2), (loaded, 0.8)]
-
 # Moods of a walk: how often each kind of step is taken.
 MOODS = {
-    "calm": [(honest, 90), (replay, 3), (broken, 1), (collected, 1), (lost, 3), (odd, 2), *SELDOM],
-    "rough": [(honest, 50), (replay, 10), (broken, 12), (collected, 8), (lost, 10), (forged, 10), *SELDOM],
-    "forging": [(honest, 20), (forged, 40), (replay, 10), (broken, 15), (collected, 10), (lost, 5), *SELDOM],
+    "calm": [(honest, 90), (replay, 3), (broken, 1), (collected, 1), (lost, 3), (odd, 2)],
+    "rough": [(honest, 50), (replay, 10), (broken, 12), (collected, 8), (lost, 10), (forged, 10)],
+    "forging": [(honest, 20), (forged, 40), (replay, 10), (broken, 15), (collected, 10), (lost, 5)],
     "filling": [(honest, 75), (logging, 15), (replay, 4), (collected, 3), (forged, 3)],
     "logging": [(logging, 80), (honest, 12), (forged, 5), (collected, 3)],
     "archiving": [(logging, 55), (collected, 35), (honest, 5), (lost, 5)],
-    "archiving-pairs": [(honest, 60), (broken, 20), (collected, 20), *SELDOM],
+    "archiving-pairs": [(honest, 60), (broken, 20), (collected, 20)],
     "issuing": [(issued, 15), (loaded, 30), (honest, 40), (broken, 8), (collected, 2), (forged, 5)],
     "noise": [(odd, 70), (honest, 20), (forged, 10)],
 }
+# Money from outside comes seldom into a walk about payments, since 32 full purses pay little.
+for about_payments in ("calm", "rough", "forging", "archiving-pairs"):
+    MOODS[about_payments] += [(issued, 0.2), (loaded, 0.8)]
 
 
 def walk_event(rng, bench, mood):
@@ -216,10 +227,10 @@ def walk(rng, bench, mood, length):
 
 def event_of(rng, bench):
     """One event in any mood, now and then cut or with bytes behind it."""
-    mood = rng.choice(list(MOODS))
-    if bench.message_count == model.MESSAGES and rng.random() < 0.5:
-        mood = "filling"  # what is sent then is lost
-    data = walk_event(rng, bench, mood)
+    data = None
+    if bench.message_count == model.MESSAGES and rng.random() < 0.5:  # what is sent now is lost
+        data = rng.choice([awaited, logging])(rng, bench)
+    data = data or walk_event(rng, bench, rng.choice(list(MOODS)))
     if rng.random() < 0.05:
         return (data + data + bytes(255))[: rng.choice([0, 1, 11, 13, 24, 255])]
     return data

@@ -410,7 +410,7 @@ def lose(bench, place):
 
 
 def issue(bench, purse_class, balance):
-    """A5: "Kind 7 issues a purse at the next free place [..] 24 (32 purses stand already), 22, 21" """
+    """A5: "Kind 7 issues a purse at the next free place: [..] issue 2, 3, 24 [..], 22, 21" """
     if bench.count == PURSES:
         return 24
     if purse_class != PERSON:

@@ -773,7 +773,7 @@ def check_reach(tally, seen, alone, pairs):
         tally.count(f"reach {letter}", fault)
     for (letter, kind), numbers in KIND_ANSWERS.items():
         missed = [number for number in numbers if not seen[letter, kind, number]]
-        fault = f"no {KINDS[kind]} was drawn at {letter} with the answers {missed}" if missed else None
+        fault = f"no {KINDS[kind]} drawn at {letter} was answered {missed}" if missed else None
         tally.count(f"reach {letter} {kind}", fault)
     every = PURSE_RULES + IMAGE_RULES + STATE_RULES
     rules = {"E": every, "W": every, "C": every, "R": PURSE_RULES + IMAGE_RULES, "P": PURSE_RULES}
