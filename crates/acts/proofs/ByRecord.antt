@@ -36,7 +36,7 @@ use Rattle.desk.specs.declared.Entry.{Entry}
 use Rattle.desk.specs.declared.Desk.{Desk}
 use Rattle.desk.specs.declared.Held.{Held}
 use Rattle.desk.specs.declared.Answered.{Answered}
-use Rattle.desk.specs.Desk.{zeroEntry, added, takenOut, stored}
+use Rattle.desk.specs.Desk.{zeroEntry, appended, takenOut, stored}
 use Rattle.rules.specs.declared.Event.{Event}
 use Rattle.rules.specs.declared.Event.the-variants.{Malformed, StartFrom, StartTo, Deliver, Abort, Lose, Collect, Issue, Load}
 use Rattle.rules.specs.Bench.{Bench, called, openedAt, purseAt, messageAt}
@@ -77,7 +77,7 @@ module _ (b : Bench) where
 
   -- one purse replaced and its message sent
   sent-laid : (p : ℕ) (q : Purse) (m : Message) → p < length (b .purses) → shown (sending (withPurse b p q) m) ≡ putBack (laid b) p (carriedOut q desk (toSend m))
-  unfolding toSend carriedOut added
+  unfolding toSend carriedOut appended
   sent-laid p q m h =
       ⊎-elim
       (λ (k : eqb (m .kind) 0 ≡ true). rw k (ap (λ (x : Held). record { answer = 0; held = x }) (put-laid p q h)))

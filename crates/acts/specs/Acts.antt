@@ -23,7 +23,7 @@ use Rattle.desk.specs.declared.Archive.{Archive}
 use Rattle.desk.specs.declared.Desk.{Desk}
 use Rattle.desk.specs.declared.Held.{Held}
 use Rattle.desk.specs.declared.Answered.{Answered}
-use Rattle.desk.specs.Desk.{added, takenOut, stored}
+use Rattle.desk.specs.Desk.{appended, takenOut, stored}
 use Rattle.rules.specs.declared.Event.{Event}
 use Rattle.asks.specs.declared.Asked.{Asked}
 use Rattle.asks.specs.declared.Asked.the-variants as asks
@@ -86,9 +86,9 @@ unfoldable pub carriedOut : Purse → Desk → Change → Acted
 carriedOut q d change.Nothing = record { answer = 0; purse = q; desk = d }
 carriedOut q d (change.Send m) =
     record {
-      answer = cond (added (d .ether) m .lost) 1 0;
+      answer = cond (appended (d .ether) m .lost) 1 0;
       purse = q;
-      desk = withEther d (added (d .ether) m .ether);
+      desk = withEther d (appended (d .ether) m .ether);
     }
 carriedOut q d (change.Lose i) = record { answer = 0; purse = q; desk = withEther d (takenOut (d .ether) i .ether) }
 carriedOut q d (change.Store e) = record { answer = 0; purse = q; desk = withArchive d (stored (d .archive) e) }

@@ -1,5 +1,5 @@
 -- What an event asks for, at a table that is well formed: the one record that it means, the message that it delivers, and the tests that
--- read the desk, in document 01's order for each kind (`asked`). Those that read one purse alone are the card's, behind them.
+-- read the desk, in the documents' order for each kind (`asked`). Those that read one purse alone are the card's, behind them.
 use Prim.Native.Nat.{ℕ}
 use mathlib.Core.Bool.{Bool, not, cond}
 use mathlib.Core.List.{List, [], _∷_}

@@ -1,4 +1,4 @@
-// What an event asks for: the tests that read the desk, in document 01's order.
+// What an event asks for: the tests that read the desk, in the documents' order.
 use crate::Asked;
 use crate::Seen;
 use purse::Amount;
@@ -42,7 +42,7 @@ fn lose_number(messages: u16, place: u32) -> u8
     tested(0, stand <= place, 5)
 }
 
-// The classes that a purse may be issued with.
+// Class 0, a person: the one class until A2.
 fn class_ok(class: u8) -> bool
     ensures { λ r. ⌜ r ≡ classOk class ⌝ }
 {

@@ -23,7 +23,7 @@ use Rattle.desk.specs.declared.Archive.{Archive}
 use Rattle.desk.specs.declared.Changed.{Changed}
 use Rattle.desk.specs.declared.Held.{Held}
 use Rattle.desk.specs.declared.Answered.{Answered}
-use Rattle.desk.specs.Desk.{added, takenOut, stored}
+use Rattle.desk.specs.Desk.{appended, takenOut, stored}
 use Rattle.rules.specs.declared.Event.{Event}
 use Rattle.rules.specs.Laid.{seen, isZeroPurse, isZeroMessage, isZeroEntry, placesOk, heldOk}
 use Rattle.rules.specs.Table.{tableOk}
@@ -95,7 +95,7 @@ module _ (h : Held) (k : ℕ) (a : Asked) (t : Turned) where
     unfolding carriedOut
     when-nothing e = rw (done, e, z)
 
-    pub when-sent : (m : Message) (x : Changed) (n : ℕ) → c ≡ change.Send m → x ≡ added (h .desk .ether) m → n ≡ after 0 (x .lost) 1 → record { answer = n; held = record { table = set (h .table) k q; desk = withEther (h .desk) (x .ether) } } ≡ settledAt
+    pub when-sent : (m : Message) (x : Changed) (n : ℕ) → c ≡ change.Send m → x ≡ appended (h .desk .ether) m → n ≡ after 0 (x .lost) 1 → record { answer = n; held = record { table = set (h .table) k q; desk = withEther (h .desk) (x .ether) } } ≡ settledAt
     unfolding carriedOut
     when-sent m x n e s f = rw (done, e, f, s)
 

@@ -18,7 +18,7 @@ use Rattle.card.specs.Act.{recordAfter}
 use Rattle.desk.specs.declared.Entry.{Entry}
 use Rattle.desk.specs.declared.Desk.{Desk}
 use Rattle.desk.specs.declared.Held.{Held}
-use Rattle.desk.specs.Desk.{zeroEntry, added, stored}
+use Rattle.desk.specs.Desk.{zeroEntry, appended, stored}
 use Rattle.rules.specs.declared.Event.{Event}
 use Rattle.asks.specs.declared.Seen.{Seen}
 use Rattle.acts.specs.declared.Change.{Change}
@@ -57,11 +57,11 @@ module _ (d : Desk) where
     stays-so n q = rw (same-messages, same-entries)
 
     sends-so : (q : Purse) (m : Message) → ltb (d .ether .count) 256 ≡ true → actedBy d (doing q s last entry (Send m)) ≡ carriedOut q d (Send m)
-    unfolding doing carriedOut added deskAfter
+    unfolding doing carriedOut appended deskAfter
     sends-so q m p = rw (p, within-is (d .ether .count) p, same-entries)
 
     sends-lost : (q : Purse) (m : Message) → ltb (d .ether .count) 256 ≡ false → actedBy d (doing q s last entry (Send m)) ≡ carriedOut q d (Send m)
-    unfolding doing carriedOut added
+    unfolding doing carriedOut appended
     sends-lost q m p = rw p (stays-so 1 q)
 
     stores-so : (q : Purse) (e : Entry) → ltb (d .archive .count) 256 ≡ true → actedBy d (doing q s last entry (Store e)) ≡ carriedOut q d (Store e)

@@ -34,8 +34,8 @@ abbrev pub openedDesk : ℕ → Desk
 openedDesk n = record { purses = n; ether = emptyEther; archive = emptyArchive }
 
 -- "Sending appends at the end of the messages"; "If 256 messages stand, the sent one is lost"
-unfoldable pub added : Ether → Message → Changed
-added e m =
+unfoldable pub appended : Ether → Message → Changed
+appended e m =
     cond (ltb (e .count) places)
     (record { ether = record { places = set (e .places) (e .count) m; count = e .count + 1 }; lost = false })
     (record { ether = e; lost = true })

@@ -3,7 +3,7 @@ use crate::Changed;
 use crate::Ether;
 use purse::Message;
 ghost use mathlib.Core.Path.{_≡_};
-ghost use Rattle.desk.specs.Desk.{emptyEther, added, takenOut};
+ghost use Rattle.desk.specs.Desk.{emptyEther, appended, takenOut};
 
 impl Ether {
     pub fn empty() -> Ether
@@ -19,7 +19,7 @@ impl Ether {
 
     // The message at the end of the others; lost where 256 stand.
     pub fn add(self, m: Message) -> Changed
-        ensures { λ r. ⌜ r ≡ added self m ⌝ }
+        ensures { λ r. ⌜ r ≡ appended self m ⌝ }
     {
         let count = self.count;
         if count < 256 {

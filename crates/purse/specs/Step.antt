@@ -1,4 +1,4 @@
--- The steps of one purse: for each, its tests in document 01's order with their numbers, and what it does where none applies.
+-- The steps of one purse: for each, its tests in the documents' order with their numbers, and what it does where none applies.
 use Prim.Native.Nat.{ℕ, _+_, _-_}
 use mathlib.Core.Bool.{Bool, _&&_, _||_, not, cond}
 use mathlib.Core.List.{List, [], _∷_, _++_}

@@ -1,4 +1,4 @@
--- "Only the first that applies, in this order": a list of tests, each beside its number in document 01's table.
+-- "Only the first that applies, in this order": a list of tests, each beside its number in the documents' tables.
 use Prim.Native.Nat.{ℕ}
 use mathlib.Core.Bool.{Bool, cond}
 use mathlib.Core.List.{List, [], _∷_}

@@ -1,4 +1,4 @@
--- "Only the first that applies, in this order": for each kind of event, document 01's list of tests as one list about the bench. The steps
+-- "Only the first that applies, in this order": for each kind of event, the documents' list of tests as one list about the bench. The steps
 -- of Steps.antt test part at the bench and part at the card; that their answer is the first of these lists is proved (proofs/Orders.antt).
 -- What is done answers 0, or 1 where a message is sent and 256 stand: the last test of a list, so that 0 means that none applies.
 use Prim.Native.Nat.{ℕ, _+_}

@@ -1,4 +1,4 @@
--- The step of each kind of event. Its tests stand in the order of document 01's list for that kind; the tests that read one purse
+-- The step of each kind of event. Its tests stand in the order of the documents' list for that kind; the tests that read one purse
 -- alone are the card's, in the same order behind them.
 use Prim.Native.Nat.{ℕ}
 use mathlib.Core.Bool.{Bool, not, cond}
@@ -24,10 +24,6 @@ use Rattle.rules.specs.Events.{decoded}
 pub record Answer : Type 0 where
   pub answer : ℕ
   pub bench : Bench
-
--- the classes that a purse may be issued with: A2 brings the others, and `openedAt` the class
-abbrev pub classOk : ℕ → Bool
-classOk c = eqb c 0
 
 -- "Answers from 2 up change nothing anywhere"
 abbrev pub refused : ℕ → Bench → Answer
@@ -108,6 +104,10 @@ losing b i =
 -- "Collect: 2, 3, 4, 14, 15"
 abbrev pub collecting : Bench → ℕ → Answer
 collecting b p = cond (noPurse b p) (refused 4 b) (archiving b p (told b p card.Collect))
+
+-- class 0, a person: the one class until A2
+abbrev pub classOk : ℕ → Bool
+classOk class = eqb class 0
 
 -- "issue 2, 3, 24 (32 purses stand already), 22, 21" (02, A5)
 abbrev pub issuing : Bench → ℕ → ℕ → Answer

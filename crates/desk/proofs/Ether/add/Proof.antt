@@ -6,14 +6,14 @@ use Prim.Native.Nat.{_≤_}
 use borrow.Author.Tests.{lt-ltb, le-ltb}
 use Rattle.purse.specs.declared.Message.{Message}
 use Rattle.desk.specs.declared.Ether.{Ether}
-use Rattle.desk.specs.Desk.{added}
+use Rattle.desk.specs.Desk.{appended}
 use borrow.Author.Needs.{needs}
 use Rattle.desk.proofs.Ether.add.Statement.{statement}
 use Rattle.desk.proofs.Ether.add.Tie as tie
 
 -- where 256 messages stand, the ether stays as it was
-as-it-was : (e : Ether) (m : Message) → 256 ≤ e .count → record { ether = e; lost = true } ≡ added e m
-unfolding added
+as-it-was : (e : Ether) (m : Message) → 256 ≤ e .count → record { ether = e; lost = true } ≡ appended e m
+unfolding appended
 as-it-was e m h = rw (le-ltb _ _ h)
 
 cast-at : tie.Need-cast-at
@@ -29,7 +29,7 @@ add-next : tie.Need-add-next
 add-next c = search needs
 
 returns : tie.Need-returns
-unfolding added
+unfolding appended
 returns c = rw (lt-ltb _ _ (c .if1 .taken))
 
 returns-2 : tie.Need-returns-2
