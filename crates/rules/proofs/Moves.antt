@@ -274,7 +274,6 @@ module _ (b : Bench) (t : Table b) (Q : Bench → Effect → Type 0) (v : Moves 
   event-moves (Abort p) = by-test b Quiet (noPurse b (p .0)) 4 _ (λ no. v .stays) (λ hp. abort-moves (p .0) (leb-false _ _ hp))
   event-moves (Lose i) = by-test b Quiet (noMessage b i) 5 _ (λ no. v .stays) (λ hi. v .drop i (leb-false _ _ hi))
   event-moves (Collect p) = by-test b Quiet (noPurse b (p .0)) 4 _ (λ no. v .stays) (λ hp. collect-moves (p .0) (leb-false _ _ hp))
-
   event-moves (Issue class w) =
       by-test b (By (adds (length (b .purses)) (w .0))) (leb 32 (length (b .purses))) 24 _ (λ no. v .stays) (λ few.
       by-test b (By (adds (length (b .purses)) (w .0))) (not (classOk class)) 22 _ (λ no. v .stays) (λ ok.
