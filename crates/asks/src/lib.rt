@@ -1,4 +1,6 @@
 // What an event asks for: the record and the message that it means, and the tests that read the desk. By value.
+#![tactic(auto)]
+
 use purse::{Amount, CardEvent, Message, Name};
 
 mod asking; // asking.rt: the tests that read the desk
@@ -9,7 +11,7 @@ pub use looking::{delivered_at, look, within};
 
 // What is seen of an event and the desk: the place of the record that the event means; and what its tests read of the desk, its counts and the
 // message that is delivered, or an all-zero one.
-#[derive(Drop)]
+#[derive(Clone, Copy)]
 pub struct Seen {
     pub place: usize,
     pub purses: u8,
@@ -21,7 +23,7 @@ pub struct Seen {
 // What an event asks for, behind the tests that read the desk: it is refused; or a message goes; or the card is told something, and its
 // message is sent; or the card is told to collect, and its entry is stored in an archive that may be full; or a purse is issued with a first
 // balance.
-#[derive(Drop)]
+#[derive(Clone, Copy)]
 pub enum Asked {
     Refused(u8),
     Lose(u32),

@@ -1,5 +1,7 @@
 // The bench's entries: "The bench owns a table of 32 purse records, lent to each call." Each is thin: an event steps one record by value and stores
 // it back; the others work on the table copied out. What each does is the bench's own definition, over the lent table beside the desk.
+#![tactic(auto)]
+
 ghost use Rattle.std.specs.Prelude.{◌≡◌};
 ghost use Rattle.rules.specs.Laid.{held_step, held_opening, held_claims};
 ghost use Rattle.bench.specs.Runs.{run_of};

@@ -1,5 +1,7 @@
 // Bytes, counts of two bytes and numbers of four, put and read with the highest byte first, at any place of any list. What the bytes of a
 // number, a list and a buffer are, and the laws of bytes put and read, stand in specs/ and proofs/.
+#![tactic(auto)]
+
 ghost use Rattle.std.specs.Prelude.{◌≡◌, ◌-◌, ◌<◌};
 ghost use Rattle.bigendian.specs.Bytes.{put_in, byte, big, number_at, number_in, read_in};
 

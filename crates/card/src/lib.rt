@@ -1,5 +1,7 @@
 // The card: one purse record and its step. Told its own name, a card takes a start, a message, an abort, a collect or a load, and gives
 // the answer's number, the record and what it hands out. It knows nothing of a bench.
+#![tactic(auto)]
+
 ghost use Rattle.std.specs.Prelude.{◌≡◌};
 ghost use Rattle.purse.specs.Card.{step_by};
 ghost use Rattle.card.specs.Act.{act_by};

@@ -1,5 +1,7 @@
 // The slot that a card is put in: "A card owns one purse record and updates that record where it stands in card memory." The record is lent,
 // one order at a time; what the card does is the crate card's step, by value.
+#![tactic(auto)]
+
 ghost use Rattle.std.specs.Prelude.{◌≡◌};
 ghost use Rattle.purse.specs.Card.{step_by};
 ghost use Rattle.card_c.specs.Order.{told_of, handed_of};
@@ -10,7 +12,7 @@ use purse::{Amount, CardAnswer, CardEvent, Details, Message, Name, Purse, Seq};
 // What a card is told, as a foreign caller writes it: kind 1 start-from, 2 start-to, 4 abort, 6 collect, 8 load, every other number
 // a message.
 #[repr(C)]
-#[derive(Drop)]
+#[derive(Clone, Copy)]
 pub struct Order {
     pub kind: u8,
     pub other: Name,
@@ -21,7 +23,7 @@ pub struct Order {
 
 // What a card hands out: the number, and the message to send or the entry collected, or all zero.
 #[repr(C)]
-#[derive(Drop)]
+#[derive(Clone, Copy)]
 pub struct Handed {
     pub answer: u8,
     pub message: Message,

@@ -1,5 +1,7 @@
 // The claims figure: what is owed to payers, over every matched pair, wherever its two entries stand. One pass over the entries of all logs and
 // one over the archive; a pair is counted once, at its payer's entry.
+#![tactic(auto)]
+
 ghost use Rattle.std.specs.Prelude.{◌≡◌, true, map, ◌≤◌, get_or};
 ghost use Rattle.purse.specs.Lists.{every, all, total};
 ghost use Rattle.purse.specs.Purse.{zero_purse};

@@ -1,5 +1,7 @@
 // What an event writes in a lent table and desk, place by place, so that nothing else is moved: worked out by value from what is seen of it, the
 // record that it means and the few places that it reads.
+#![tactic(auto)]
+
 ghost use Rattle.std.specs.Prelude.{◌≡◌};
 ghost use Rattle.rules.specs.Events.{decoded};
 ghost use Rattle.desk.specs.Desk.{taken_out};
@@ -17,7 +19,7 @@ use turns::Turned;
 
 // What an event writes: the answer, its record's next state, the number of purses, what then stands behind the messages and behind the
 // entries with their counts, and the place of a message that is lost.
-#[derive(Drop)]
+#[derive(Clone, Copy)]
 pub struct Deed {
     pub answer: u8,
     pub purse: Purse,

@@ -1,5 +1,7 @@
 // What the bench holds beside its table of purses: the ether (the messages that stand), the issuer's archive, and the purse count.
 // Each changes by value: a method takes it and hands back its next state.
+#![tactic(auto)]
+
 mod entries;
 mod messages;
 
@@ -10,7 +12,7 @@ use purse::{Details, Message, Name, Purse};
 
 // A log entry that the issuer has collected, and the purse that logged it.
 #[repr(C)]
-#[derive(Drop)]
+#[derive(Clone, Copy)]
 pub struct Entry {
     pub by: Name,
     pub details: Details,
@@ -18,7 +20,7 @@ pub struct Entry {
 
 // The messages that stand, from place 0; unused places are all zero.
 #[repr(C)]
-#[derive(Drop)]
+#[derive(Clone, Copy)]
 pub struct Ether {
     pub places: [Message; 256],
     pub count: u16,
@@ -26,14 +28,14 @@ pub struct Ether {
 
 // The entries collected, from place 0; unused places are all zero.
 #[repr(C)]
-#[derive(Drop)]
+#[derive(Clone, Copy)]
 pub struct Archive {
     pub places: [Entry; 256],
     pub count: u16,
 }
 
 // The ether's next state, and whether a message was lost on the way.
-#[derive(Drop)]
+#[derive(Clone, Copy)]
 pub struct Changed {
     pub ether: Ether,
     pub lost: bool,
@@ -41,7 +43,7 @@ pub struct Changed {
 
 // All that a bench holds beside its table.
 #[repr(C)]
-#[derive(Drop)]
+#[derive(Clone, Copy)]
 pub struct Desk {
     pub purses: u8,
     pub ether: Ether,
@@ -50,7 +52,7 @@ pub struct Desk {
 
 // What a bench holds: its table of 32 purse records, and its desk.
 #[repr(C)]
-#[derive(Drop)]
+#[derive(Clone, Copy)]
 pub struct Held {
     pub table: [Purse; 32],
     pub desk: Desk,
@@ -58,7 +60,7 @@ pub struct Held {
 
 // What a call answers, and what the bench then holds.
 #[repr(C)]
-#[derive(Drop)]
+#[derive(Clone, Copy)]
 pub struct Answered {
     pub answer: u8,
     pub held: Held,
@@ -66,7 +68,7 @@ pub struct Answered {
 
 // The claims figure, beside the answer.
 #[repr(C)]
-#[derive(Drop)]
+#[derive(Clone, Copy)]
 pub struct Figure {
     pub answer: u8,
     pub claims: u32,

@@ -1,5 +1,7 @@
 // The test of the rules about one purse alone, and of the payment details that it holds. It is cut into the head by value and one place of the
 // log by value: a record handed whole into a loop is taken apart field by field on every turn.
+#![tactic(auto)]
+
 ghost use Rattle.std.specs.Prelude.{◌≡◌, ◌&&◌, ◌||◌, not, ◌≤◌, min};
 ghost use Rattle.purse.specs.Lists.{all};
 ghost use Rattle.purse.specs.Details.{same_details, named, as_payer, as_payee, entry_ok, absent};

@@ -1,4 +1,6 @@
 // Stored images, over a table lent to each call: an image is written from the table copied out, or read by value and stored in the lent table.
+#![tactic(auto)]
+
 ghost use Rattle.std.specs.Prelude.{◌≡◌};
 ghost use Rattle.layout.specs.Calls.{held_write, held_buffer, held_read};
 ghost use Rattle.walk_table.specs.Lent.{held};

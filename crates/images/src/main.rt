@@ -2,6 +2,8 @@
 // left, and what is then held is written: a line gives the answer of reading, the answer and the length of writing, and 1 where the
 // bytes written are those read. Last, every byte of the last image is changed to each other value: a line for each byte says how many of the
 // 255 read without refusal, and how many gave 2, 16, 17 and 18.
+#![tactic(auto)]
+
 ghost use Rattle.std.specs.Prelude.{◌≤◌, length};
 
 use bigendian::count_at;
@@ -10,7 +12,7 @@ use libc::{STDIN_FILENO, STDOUT_FILENO};
 use purse::Purse;
 
 // How many readings answered 0, 2, 16, 17 and 18.
-#[derive(Drop)]
+#[derive(Clone, Copy)]
 struct Tally {
     done: u32,
     rules: u32,

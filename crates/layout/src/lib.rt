@@ -1,5 +1,7 @@
 // Stored images as definitions, in specs/: what bytes a bench's image has, what bench an image gives, and which refusal comes first; and, in
 // proofs/, that each undoes the other. The code is the crates parts, writing, reading and image.
+#![tactic(auto)]
+
 pub mod widths; // widths.rt: how many bytes each part takes
 
 ghost use Rattle.std.specs.Prelude.{◌≡◌};
@@ -11,7 +13,7 @@ pub const VERSION: u16 = 1;
 
 // What writing answers, and how long the image is.
 #[repr(C)]
-#[derive(Drop)]
+#[derive(Clone, Copy)]
 pub struct Written {
     pub answer: u8,
     pub length: usize,

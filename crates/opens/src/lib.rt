@@ -1,4 +1,6 @@
 // A bench opened with given balances, whatever it held before.
+#![tactic(auto)]
+
 ghost use Rattle.std.specs.Prelude.{◌≡◌, ◌≤◌, length};
 ghost use Rattle.purse.specs.Lists.{all};
 ghost use Rattle.rules.specs.Run.{opening_number, opened};

@@ -1,4 +1,6 @@
 // The parts of an image as bytes: details, a log, a purse, a message, an archive entry, each put and got at a place of any bytes.
+#![tactic(auto)]
+
 ghost use Rattle.std.specs.Prelude.{◌≡◌, ◌+◌, ◌≤◌, length};
 ghost use Rattle.purse.specs.Details.{zero_details, zero_message};
 ghost use Rattle.purse.specs.Purse.{zero_purse};

@@ -1,5 +1,7 @@
 // A test rig's door to every entry: requests on standard input, a reply to each on standard output. It turns bytes into records, calls the
 // library once, and turns records into bytes. A request that is cut short or of another letter ends it.
+#![tactic(auto)]
+
 mod states; // states.rt: a whole state as bytes
 
 ghost use Rattle.std.specs.Prelude.{◌≤◌, ◌<◌, length, ◌≡◌};

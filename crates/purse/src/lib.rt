@@ -1,5 +1,7 @@
 // What a purse holds: names, sequence numbers, amounts, payment details, messages and the purse record itself, with the ceilings of
 // document 01. What the purse's rules and steps are stands in specs/; the code of the steps is the crate card.
+#![tactic(auto)]
+
 ghost use Rattle.std.specs.Prelude.{◌≡◌};
 ghost use Rattle.purse.specs.Tests.{after};
 ghost use Rattle.purse.specs.Details.{zero_details, same_details, zero_message, same_message};
@@ -7,17 +9,17 @@ ghost use Rattle.purse.specs.Purse.{ceiling, opened_purse, zero_purse};
 
 // The place of a purse in the table, from 0.
 #[repr(C)]
-#[derive(Drop)]
+#[derive(Clone, Copy)]
 pub struct Name(pub u8);
 
 // A sequence number.
 #[repr(C)]
-#[derive(Drop)]
+#[derive(Clone, Copy)]
 pub struct Seq(pub u32);
 
 // An amount of money.
 #[repr(C)]
-#[derive(Drop)]
+#[derive(Clone, Copy)]
 pub struct Amount(pub u32);
 
 impl Name {
@@ -26,7 +28,7 @@ impl Name {
 
 // Payment details.
 #[repr(C)]
-#[derive(Drop)]
+#[derive(Clone, Copy)]
 pub struct Details {
     pub payer: Name,
     pub payerseq: Seq,
@@ -37,7 +39,7 @@ pub struct Details {
 
 // Kind 1 request, 2 value, 3 acknowledge.
 #[repr(C)]
-#[derive(Drop)]
+#[derive(Clone, Copy)]
 pub struct Message {
     pub kind: u8,
     pub details: Details,
@@ -45,7 +47,7 @@ pub struct Message {
 
 // Status 0 idle, 1 epr, 2 epv, 3 epa; `logged` of the log's places are used.
 #[repr(C)]
-#[derive(Drop)]
+#[derive(Clone, Copy)]
 pub struct Purse {
     pub balance: Amount,
     pub next: Seq,
@@ -56,7 +58,7 @@ pub struct Purse {
 }
 
 // What a card is told.
-#[derive(Drop)]
+#[derive(Clone, Copy)]
 pub enum CardEvent {
     StartFrom {
         other: Name,
@@ -76,7 +78,7 @@ pub enum CardEvent {
 
 // What a card answers: the number, the record, and the message to send or the entry collected, or all zero.
 #[repr(C)]
-#[derive(Drop)]
+#[derive(Clone, Copy)]
 pub struct CardAnswer {
     pub answer: u8,
     pub purse: Purse,

@@ -1,4 +1,6 @@
 // When a card refuses: the head of a record, and the tests of each step in the documents' order.
+#![tactic(auto)]
+
 use purse::{Amount, Details, Seq};
 
 pub mod numbers; // numbers.rt: the number that refuses a step, or 0
@@ -6,7 +8,7 @@ mod heads; // heads.rt: the head of a record
 
 // The head of a record: a purse without its log, and `most`, the ceiling of its balance. A step's tests read nothing else, and most steps
 // change nothing else.
-#[derive(Drop)]
+#[derive(Clone, Copy)]
 pub struct Head {
     pub balance: Amount,
     pub next: Seq,

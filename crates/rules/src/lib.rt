@@ -1,7 +1,9 @@
 // What an event says, once its bytes are read. The rules that decide what it does stand in specs/.
+#![tactic(auto)]
+
 use purse::{Amount, Name, Seq};
 
-#[derive(Drop)]
+#[derive(Clone, Copy)]
 pub enum Event {
     Malformed,
     StartFrom {

@@ -3,6 +3,8 @@
 //
 // A read or a write that fails is told on standard error, and the listing ends there, without its foot: the kit's programs have no exit
 // status, so whoever runs one sees by the message, and by the missing last line, that the listing is not whole.
+#![tactic(auto)]
+
 ghost use Rattle.std.specs.Prelude.{◌≤◌, length, take, ◌≡◌};
 ghost use Rattle.rules.specs.Laid.{held_opening};
 ghost use Rattle.listing.specs.Whole.{unopened};
@@ -11,7 +13,7 @@ use desk::{Answered, Desk, Held};
 use purse::Purse;
 
 // What one call moved, whether another is due, and whether it failed.
-#[derive(Drop)]
+#[derive(Clone, Copy)]
 struct Moved {
     count: usize,
     more: bool,
@@ -19,21 +21,21 @@ struct Moved {
 }
 
 // How many bytes came, and whether that is so because a read failed.
-#[derive(Drop)]
+#[derive(Clone, Copy)]
 struct Filled {
     count: usize,
     is_failed: bool,
 }
 
 // The opening's answer and bench, unless its bytes could not be read.
-#[derive(Drop)]
+#[derive(Clone, Copy)]
 struct Started {
     opened: Answered,
     is_failed: bool,
 }
 
 // Where a run stands: what the bench holds, the next event's number, whether there may be more input, and whether the run had to stop.
-#[derive(Drop)]
+#[derive(Clone, Copy)]
 struct Going {
     held: Held,
     next: u64,

@@ -1,5 +1,7 @@
 // Whether a bench's table and desk obey the rules: each record alone, then each message and each archive entry once, beside the one or
 // two records that it names. Nothing is assumed of what is handed in: a count above its places is refused before any place is read.
+#![tactic(auto)]
+
 ghost use Rattle.std.specs.Prelude.{◌≡◌};
 ghost use Rattle.rules.specs.Laid.{held_ok};
 

@@ -1,4 +1,6 @@
 // The archive's entries: each once, beside the record of the purse that logged it.
+#![tactic(auto)]
+
 ghost use Rattle.std.specs.Prelude.{◌≡◌};
 ghost use Rattle.rules.specs.Laid.{is_zero_entry, places_ok};
 ghost use Rattle.table_records.specs.Records.{entry_alone, entry_beside, collected_ok, entries_ok};

@@ -1,4 +1,6 @@
 // The messages: each once, beside the records that it names.
+#![tactic(auto)]
+
 ghost use Rattle.std.specs.Prelude.{◌≡◌};
 ghost use Rattle.rules.specs.Laid.{is_zero_message, places_ok};
 ghost use Rattle.table_records.specs.Records.{message_alone, payee_ok, payer_ok, message_beside, standing_ok, messages_ok};

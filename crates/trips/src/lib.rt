@@ -1,5 +1,7 @@
 // Writing and reading undo each other: a bench written and its image read back, an image read and its bench written back. The contracts are
 // the round trips, for any bench and any bytes of the code.
+#![tactic(auto)]
+
 mod fits; // fits.rt: each number of a bench fits its bytes
 
 ghost use Rattle.std.specs.Prelude.{◌≡◌};

@@ -1,4 +1,6 @@
 // A card's step behind the test of its record, at the head of the record: the log is not read, only told what becomes of it.
+#![tactic(auto)]
+
 ghost use Rattle.std.specs.Prelude.{◌≡◌};
 ghost use Rattle.turns.specs.Turns.{turn_by};
 
@@ -12,7 +14,7 @@ mod ends; // ends.rt: abort and collect
 mod loads; // loads.rt: load
 
 // What becomes of the exception log: nothing; the running details appended; the oldest entry out, the later ones one place down.
-#[derive(Drop)]
+#[derive(Clone, Copy)]
 pub enum LogChange {
     Nothing,
     Append,
@@ -20,7 +22,7 @@ pub enum LogChange {
 }
 
 // What a step makes of a head: the answer, the next head, what becomes of the log, and the message to send or an all-zero one.
-#[derive(Drop)]
+#[derive(Clone, Copy)]
 pub struct Turned {
     pub head: Head,
     pub message: Message,

@@ -1,4 +1,6 @@
 // The bench program's run over further inputs: each file that an argument names, listed one after the other.
+#![tactic(auto)]
+
 use libc::STDOUT_FILENO;
 
 fn list_file(argument: usize) {

@@ -1,5 +1,7 @@
 // An event at a lent desk: what is seen of it there; then one message and one entry are read where they stand, and written there, with the
 // counts; of a loss alone the messages are moved.
+#![tactic(auto)]
+
 ghost use Rattle.std.specs.Prelude.{◌≡◌};
 ghost use Rattle.rules.specs.Events.{decoded};
 ghost use Rattle.asks.specs.Asks.{seen_at};

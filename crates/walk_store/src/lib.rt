@@ -1,4 +1,6 @@
 // What was answered by value, stored in a lent table and a lent desk. "The bench owns a table of 32 purse records, lent to each call."
+#![tactic(auto)]
+
 ghost use Rattle.std.specs.Prelude.{◌≡◌};
 ghost use Rattle.walk_store.specs.Stored.{stored_of};
 

@@ -1,5 +1,7 @@
 // The records of a lent table, all of them: tested, and copied out to be worked on by value. "The bench owns a table of 32 purse records, lent to
 // each call."
+#![tactic(auto)]
+
 ghost use Rattle.std.specs.Prelude.{◌≡◌, replicate};
 ghost use Rattle.purse.specs.Purse.{zero_purse};
 ghost use Rattle.rules.specs.Laid.{held_ok};

@@ -1,4 +1,6 @@
 // A whole bench written as a stored image. What an image is, and which refusal comes first, stands in the crate layout.
+#![tactic(auto)]
+
 mod lists; // lists.rt: purses, messages and archive entries one after the other
 
 ghost use Rattle.std.specs.Prelude.{◌≡◌, true, ◌≤◌, length};

@@ -1,0 +1,13 @@
+-- `asks::asking::losing` meets its contract: the number decides.
+-- Assumes nothing.
+use Rattle.asks.specs.Asks.{to_lose}
+use borrow.Author.Tests.{ne_eqb, eq-eqb}
+use Rattle.asks.proofs.asking.losing.Goals as goal
+
+pub returns-then-n-eq0 : goal.returns-then-n-eq0
+unfolding to_lose
+returns-then-n-eq0 c = simp (eq-eqb _ 0 c.if-n-eq0.true)
+
+pub returns-else-n-eq0 : goal.returns-else-n-eq0
+unfolding to_lose
+returns-else-n-eq0 c = simp (ne_eqb _ 0 c.if-n-eq0.false)

@@ -1,0 +1,12 @@
+-- `lines::lines::header` meets its contract. A buffer of 6 bytes holds the line; a shorter one is not touched.
+-- Assumes nothing.
+use borrow.Author.Tests.{lt-leb, le-leb}
+use Rattle.lines.proofs.Puts.{filled, not_filled}
+use borrow.Author.Rules.{rules}
+use Rattle.lines.proofs.lines.header.Goals as goal
+
+pub returns-then-out-lt6 : goal.returns-then-out-lt6
+returns-then-out-lt6 c = (not_filled _ _ (lt-leb _ _ c.if-out-lt6.true), search rules)
+
+pub returns : goal.returns
+returns c = (filled (le-leb _ _ c.if-out-lt6.false) c.put_text.ensures, search rules)

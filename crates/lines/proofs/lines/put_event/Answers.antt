@@ -1,0 +1,12 @@
+-- `lines::lines::put_event` meets its contract. The event's number, its answer and the line end, one behind the other.
+-- Assumes nothing.
+use Rattle.lines.specs.Listing.{event_line}
+use Rattle.lines.proofs.Puts.{then, one_byte}
+use borrow.Author.Rules.{rules}
+use Rattle.lines.proofs.lines.put_event.Goals as goal
+
+pub returns : goal.returns
+unfolding event_line
+returns c =
+    let fields = then c.put_number-to.ensures.0 c.put_field-to.ensures.0 in
+    (then fields (one_byte c.put_byte.ensures), search rules)

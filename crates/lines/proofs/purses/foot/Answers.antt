@@ -1,0 +1,20 @@
+-- `lines::purses::foot` meets its contract. The figure put is the one that the bench's contract gives.
+-- Assumes nothing.
+use mathlib.Core.Path.{◌≡◌, ap}
+use borrow.Author.Tests.{lt-leb, le-leb}
+use Rattle.desk.specs.declared.Figure.{Figure}
+use Rattle.lines.specs.Listing.{foot_with, foot_of}
+use Rattle.lines.proofs.Puts.{same_bytes, filled, not_filled}
+use borrow.Author.Rules.{rules}
+use Rattle.lines.proofs.purses.foot.Goals as goal
+
+pub returns-then-out-lt4096 : goal.returns-then-out-lt4096
+returns-then-out-lt4096 c = (not_filled _ _ (lt-leb _ _ c.if-out-lt4096.true), search rules)
+
+pub returns : goal.returns
+unfolding foot_of
+returns c =
+    let held = c.args.held in
+    let claims : foot_with held c.claims-figure.result.claims ≡ foot_of held =
+    ap (λ (f : Figure). foot_with held f.claims) c.claims-figure.ensures in
+    (filled (le-leb _ _ c.if-out-lt4096.false) (same_bytes claims c.put_foot.ensures.0), search rules)

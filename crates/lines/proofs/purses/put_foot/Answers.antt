@@ -1,0 +1,24 @@
+-- `lines::purses::put_foot` meets its contract. The purse lines and the last line; a count above 32 takes the whole table, as the definition does.
+-- Assumes nothing.
+use Prim.Native.Nat.{ℕ}
+use native.Mathlib.Omega.{arith}
+use mathlib.Core.Path.{◌≡◌, ap, ◌∙◌}
+use mathlib.Core.List.{List}
+use lib.ListN.{length, take, length-map}
+use Rattle.purse.specs.declared.Purse.{Purse}
+use Rattle.lines.specs.Text.{numbered}
+use Rattle.lines.specs.Listing.{purse_line, foot_with}
+use Rattle.lines.proofs.Puts.{then, same_bytes}
+use Rattle.purse.proofs.Lists.{take_least}
+use borrow.Author.Rules.{rules}
+use Rattle.lines.proofs.purses.put_foot.Goals as goal
+
+pub returns : goal.returns
+unfolding foot_with
+returns c =
+    let held = c.args.held in
+    let n : ℕ = length held.table in
+    let long : n ≡ 32 = simp length-map at start.well-formed.1.0.1.1.0.1.0.1 in
+    let lines = ap (λ (k : ℕ). numbered purse_line 0 (take k held.table)) c.shown-count.ensures.0 in
+    let all = ap (λ (l : List Purse). numbered purse_line 0 l) (take_least held.desk.purses 32 held.table (omega arith)) in
+    (then (same_bytes (lines ∙ all) c.put_purses-to.ensures.0) c.put_last.ensures.0, search rules)

@@ -1,0 +1,8 @@
+-- `lines::text::put_field` meets its contract. A space and a number, one behind the other.
+-- Assumes nothing.
+use Rattle.lines.proofs.Puts.{then, one_byte}
+use borrow.Author.Rules.{rules}
+use Rattle.lines.proofs.text.put_field.Goals as goal
+
+pub returns : goal.returns
+returns c = (then (one_byte c.put_byte-to.ensures) c.put_number.ensures.0, search rules)

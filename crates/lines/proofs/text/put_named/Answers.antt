@@ -1,0 +1,8 @@
+-- `lines::text::put_named` meets its contract. A text and a number, one behind the other.
+-- Assumes nothing.
+use Rattle.lines.proofs.Puts.{then}
+use borrow.Author.Rules.{rules}
+use Rattle.lines.proofs.text.put_named.Goals as goal
+
+pub returns : goal.returns
+returns c = (then c.put_text-to.ensures c.put_field.ensures.0, search rules)

@@ -1,0 +1,25 @@
+-- `parts::get_purse` meets its contract. Each field is read where the definition reads it.
+-- Assumes nothing.
+use Prim.Native.Nat.{◌+◌}
+use native.Mathlib.Omega.{arith}
+use mathlib.Core.Path.{sym, ◌∙◌}
+use Rattle.purse.specs.Details.{zero_details}
+use Rattle.purse.specs.Purse.{zero_purse}
+use Rattle.bigendian.proofs.Numbers.{number_there, read_there, read_missing}
+use Rattle.layout.specs.Widths.{details_width, purse_width, next_place, details_place}
+use Rattle.layout.specs.Records.{details_at, purse_at}
+use Rattle.parts.proofs.get_purse.Goals as goal
+
+pub returns-then-left-lt-PURSE_WIDTH : goal.returns-then-left-lt-PURSE_WIDTH
+returns-then-left-lt-PURSE_WIDTH c = c.zero.ensures ∙ sym (read_missing _ _ _ _ _ (omega arith))
+
+pub returns : goal.returns
+unfolding purse_at
+returns c =
+    let l = c.args.s.now in
+    let at = c.args.at in
+    let all = read_there purse_at purse_width zero_purse l at (omega arith) in
+    let balance = number_there l at (omega arith) in
+    let next = number_there l (at + next_place) (omega arith) in
+    let details = read_there details_at details_width zero_details l (at + details_place) (omega arith) in
+    cc

@@ -1,0 +1,21 @@
+-- Where none stands the used places ask nothing; else they are asked by `collected_ok`; and the unused ones beside them (`with-unused`).
+-- Assumes nothing.
+use mathlib.Core.Path.{◌≡◌, ◌∙◌}
+use mathlib.Core.Bool.{Bool}
+use mathlib.Core.Logic.{⊎_elim}
+use Rattle.desk.specs.declared.Entry.{Entry}
+use Rattle.desk.specs.Desk.{same_entry}
+use Rattle.rules.specs.Laid.{is_zero_entry}
+use Rattle.table_records.specs.Records.{entry_in, collected_ok, entries_ok}
+use Rattle.table_records.proofs.Asked.{asked, none_used, with_unused}
+use Rattle.table_entries.proofs.entries_ok.Goals as goal
+
+pub returns : goal.returns
+unfolding collected_ok entries_ok
+returns c =
+    let f : Entry → Bool = entry_in c.args.purses c.args.table in
+    let l = c.args.archive.places in
+    let n = c.args.archive.count in
+    let used : c.if-archive-eq0.beside ≡ asked f same_entry l n =
+    ⊎_elim (λ w. w.1 ∙ none_used f same_entry l n w.0.taken) (λ w. w.2 ∙ w.1.ensures) c.if-archive-eq0.branch in
+    rw (c.places_ok.ensures, used) (with_unused f same_entry l n is_zero_entry)

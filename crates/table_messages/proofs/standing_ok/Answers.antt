@@ -1,0 +1,154 @@
+-- Each message is asked beside the records that it names, and held against those before it. The ways out are the laws of Asked.
+-- Assumes nothing.
+use Prim.Native.Nat.{ℕ, ◌≤◌, ◌<◌, ◌-◌}
+use mathlib.Core.Path.{◌≡◌, refl, sym, ap, ◌∙◌}
+use mathlib.Core.Bool.{true}
+use mathlib.Core.Logic.{⊎_elim}
+use lib.ListN.{length, length-map, take, get_or}
+use lib.Dec.{eqb}
+use native.Mathlib.Omega.{arith}
+use borrow.Author.Tests.{not-true, not-false}
+use borrow.Author.Rules.{rules}
+use Rattle.purse.specs.Lists.{all, among}
+use Rattle.purse.specs.Details.{zero_message, same_message}
+use Rattle.purse.proofs.Walks.{more_any, apart_more}
+use Rattle.table_records.specs.Records.{message_in, standing_ok, message_key}
+use Rattle.table_records.proofs.Same.{turn_message, message_key_lem}
+use Rattle.table_records.proofs.Asked.{too_many, one_bad, one_before, none_bad, one_more_lem, no_key, key_more}
+use Rattle.table_records.proofs.Lookups.{message_at_lem}
+use Rattle.table_messages.proofs.standing_ok.Goals as goal
+
+long-table : (start : tie.Start invariant-loop2 decreases-loop2 invariant-loop3 decreases-loop3 invariant-loop decreases-loop) → length start.args.t1 ≡ 32
+long-table start = start.well-formed.0.1.0.1
+
+long : (start : tie.Start invariant-loop2 decreases-loop2 invariant-loop3 decreases-loop3 invariant-loop decreases-loop) → length start.args.t2.places ≡ 256
+long start = simp length-map at start.well-formed.1.0.1.1.0.1.0.1
+
+element-copy-out-m :
+    tie.Need-element-copy-out-m invariant-loop2 decreases-loop2 invariant-loop3 decreases-loop3 invariant-loop decreases-loop
+element-copy-out-m c = search rules
+
+array_copy_out_payee :
+    tie.Need-array-copy-out-payee invariant-loop2 decreases-loop2 invariant-loop3 decreases-loop3 invariant-loop decreases-loop
+array_copy_out_payee c = search rules
+
+array_copy_out_payer :
+    tie.Need-array-copy-out-payer invariant-loop2 decreases-loop2 invariant-loop3 decreases-loop3 invariant-loop decreases-loop
+array_copy_out_payer c = search rules
+
+message_beside_requires :
+    tie.Need-message-beside-requires invariant-loop2 decreases-loop2 invariant-loop3 decreases-loop3 invariant-loop decreases-loop
+message_beside_requires c κs = search rules
+
+element-copy-out-o :
+    tie.Need-element-copy-out-o invariant-loop2 decreases-loop2 invariant-loop3 decreases-loop3 invariant-loop decreases-loop
+element-copy-out-o c = omega (arith, c.before.loop3.invariant.0, c.before.loop3.invariant.1, c.loop3-test.true)
+
+-- what the search found
+searched : (c : tie.After-loop3 invariant-loop2 decreases-loop2 invariant-loop3 decreases-loop3 invariant-loop decreases-loop) → c.before.loop3.again ≡ among same_message (get_or c.before.before.before.before.before.before.before.before.before.before.before.before.before.before.before.before.args.t2.places c.before.before.before.before.before.before.before.before.before.before.before.before.before.before.loop.i zero_message) (take c.before.before.before.before.before.before.before.before.before.before.before.before.before.before.loop.i c.before.before.before.before.before.before.before.before.before.before.before.before.before.before.before.before.args.t2.places)
+searched c =
+    let at-loop3 = c.before in
+    let l = c.before.before.before.before.before.before.before.before.before.before.before.before.before.before.before.before.args.t2.places in
+    let i = c.before.before.before.before.before.before.before.before.before.before.before.before.before.before.loop.i in
+    let full : at-loop3.loop3.j ≡ at-loop3.before.if3.end = omega (arith, at-loop3.loop3.invariant.2, c.loop3-test.false) in
+    at-loop3.loop3.invariant.3 ∙ ap (λ (n : ℕ). among same_message (get_or l i zero_message) (take n l)) full ∙ at-loop3.loop3.invariant.4
+
+pub returns-then-count-gt256 : goal.returns-then-count-gt256
+unfolding standing_ok
+returns-then-count-gt256 c = too_many (message_in c.args.purses c.args.t1) same_message c.args.t2.places c.args.t2.count (omega arith)
+
+pub loop-i-init : goal.loop-i-init
+loop-i-init c = (omega arith, omega arith, refl, refl, (refl, refl))
+
+pub returns-then-not-message_beside : goal.returns-then-not-message_beside
+unfolding standing_ok
+returns-then-not-message_beside c =
+    let l = c.args.t2.places in
+    let n = c.args.t2.count in
+    let t = c.args.t1 in
+    let i = c.loop-i.i in
+    let fits : n ≤ 256 = c.loop-i.invariant.0 in
+    let less : i < n = omega arith in
+    one_bad (message_in c.args.purses t) same_message l n zero_message (long start) fits i less
+    (message_at_lem c.args.purses t (get_or l i zero_message) c.place-a.result c.place-b.result _ _ (long-table start) c.place-a.ensures c.place-b.ensures c.message_beside.ensures)
+    (not-true _ c.if-not-message_beside.true)
+
+pub loop-s-init : goal.loop-s-init
+loop-s-init c = (omega arith, refl)
+
+pub loop-s-preserved : goal.loop-s-preserved
+loop-s-preserved c =
+    let l = c.args.t2.places in
+    let n = c.args.t2.count in
+    let t = c.args.t1 in
+    let i = c.loop-i.i in
+    let j = c.loop-s.s in
+    let keys = c.loop-i.keys in
+    let before : j < i = omega (arith, c.loop-s-test.true) in
+    let less : i < n = omega (arith, c.loop-i-test.true) in
+    let fits : n ≤ 256 = c.loop-i.invariant.0 in (
+      omega (arith, before),
+      more_any eqb c.key-k.result keys j 0 (omega (arith, before, less, fits, c.loop-i.invariant.4.0)) c.loop-s.invariant.1 refl,
+    )
+
+-- the places looked through settle it: all those before, or none where the key was not found
+pub loop-j-init : goal.loop-j-init
+loop-j-init c =
+    let l = c.args.t2.places in
+    let i = c.loop-i.i in
+    let x = get_or l i zero_message in
+    let full : c.loop-s.s ≡ i = omega (arith, c.loop-s.invariant.0, c.loop-s-test.false) in
+    let settled : (c.if-hit.end ≤ i) × (among same_message x (take c.if-hit.end l) ≡ among same_message x (take i l)) =
+    ⊎_elim
+    (λ w. (omega (arith, w.1), ap (λ (n : ℕ). among same_message x (take n l)) w.1))
+    (λ w. (omega (arith, w.1), ap (λ (n : ℕ). among same_message x (take n l)) w.1 ∙ sym (no_key same_message message_key message_key_lem x l c.loop-i.keys i c.loop-s.s c.key-k.result c.loop-i.invariant.4 c.key-k.ensures full c.loop-s.invariant.1 w.0.left)))
+    c.if-hit.branch in
+    (omega (arith, c.loop-i-test.true, c.loop-i.invariant.0), settled.0, omega arith, refl, settled.1)
+
+pub loop-j-preserved : goal.loop-j-preserved
+loop-j-preserved c =
+    let l = c.args.t2.places in
+    let i = c.loop-i.i in
+    let j = c.loop-j.j in
+    let below : j < c.if-hit.end = c.loop-j-test.true in
+    let inside : j < length l = omega (arith, below, c.loop-j.invariant.0, c.loop-j.invariant.1, long start) in (
+      c.loop-j.invariant.0,
+      c.loop-j.invariant.1,
+      omega (arith, below),
+      more_any same_message (get_or l i zero_message) l j zero_message inside c.loop-j.invariant.3 c.same-again.ensures,
+      c.loop-j.invariant.4,
+    )
+
+pub returns-then-again : goal.returns-then-again
+unfolding standing_ok
+returns-then-again c =
+    let n = c.args.t2.count in
+    let less : c.loop-i.i < n = omega (arith, c.loop-i-test.true) in
+    one_before (message_in c.args.purses c.args.t1) same_message c.args.t2.places n zero_message (long start) c.loop-i.invariant.0 turn_message c.loop-i.i less (searched c.before) c.if-again.true
+
+pub loop-i-preserved : goal.loop-i-preserved
+loop-i-preserved c =
+    let l = c.args.t2.places in
+    let n = c.args.t2.count in
+    let t = c.args.t1 in
+    let i = c.loop-i.i in
+    let keys = c.loop-i.keys in
+    let less : i < n = omega (arith, c.loop-i-test.true) in
+    let fits : n ≤ 256 = c.loop-i.invariant.0 in
+    let inside : i < length l = omega (arith, less, fits, long start) in (
+      fits,
+      omega (arith, less),
+      one_more_lem (message_in c.args.purses t) same_message l n zero_message (long start) fits i less c.loop-i.invariant.2
+          (message_at_lem c.args.purses t (get_or l i zero_message) c.place-a.result c.place-b.result _ _ (long-table start) c.place-a.ensures c.place-b.ensures c.message_beside.ensures)
+          (not-false _ c.if-not-message_beside.false),
+      apart_more same_message turn_message l i i zero_message inside c.loop-i.invariant.3 (sym (searched c.before) ∙ c.if-again.false) refl,
+      key_more same_message message_key message_key_lem l keys i c.key-k.result zero_message (long start) (omega (arith, less, fits)) c.loop-i.invariant.4 c.key-k.ensures,
+    )
+
+pub returns : goal.returns
+unfolding standing_ok
+returns c =
+    let l = c.args.t2.places in
+    let n = c.args.t2.count in
+    let fits : n ≤ 256 = c.loop-i.invariant.0 in
+    none_bad (message_in c.args.purses c.args.t1) same_message l n zero_message (long start) fits c.loop-i.i (omega arith) c.loop-i.invariant.2 c.loop-i.invariant.3

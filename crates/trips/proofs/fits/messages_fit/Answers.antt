@@ -1,0 +1,28 @@
+-- `trips::fits::messages_fit` meets its contract. The fact is gathered place by place.
+-- Assumes nothing.
+use Prim.Native.Nat.{◌-◌}
+use mathlib.Core.Path.{◌≡◌}
+use lib.ListN.{length, take}
+use lib.Seq.{take_all}
+use native.Mathlib.Omega.{arith}
+use Rattle.purse.specs.Details.{zero_message}
+use Rattle.layout.specs.Fits.{FitMessage}
+use Rattle.trips.proofs.Alls.{all_more}
+use borrow.Author.Rules.{rules}
+use Rattle.trips.proofs.fits.messages_fit.Goals as goal
+
+pub loop-i-init : goal.loop-i-init
+loop-i-init c = (omega arith, tt)
+
+pub loop-i-preserved : goal.loop-i-preserved
+loop-i-preserved c =
+    let xs = c.args.t1 in
+    let long : length xs ≡ 256 = search rules in
+    (omega arith, all_more FitMessage zero_message xs c.loop-i.i (omega arith) c.loop-i.invariant.1 c.message_fits.ensures)
+
+pub returns : goal.returns
+returns c =
+    let xs = c.args.t1 in
+    let long : length xs ≡ 256 = search rules in
+    let all : take c.loop-i.i xs ≡ xs = take_all c.loop-i.i xs (omega arith) in
+    rw all at c.loop-i.invariant.1

@@ -1,0 +1,33 @@
+-- `writing::write` meets its contract. The number found is the definition's; then the image is put, or nothing is.
+-- Assumes nothing.
+use mathlib.Core.Path.{◌≡◌, sym, ◌∙◌}
+use Rattle.layout.specs.Calls.{write_number}
+use Rattle.layout.proofs.Stands.{held-length}
+use Rattle.writing.proofs.Calls.{write_number_lem, writes, wrote, wrote_nothing}
+use borrow.Author.Rules.{rules}
+use Rattle.writing.proofs.write.Goals as goal
+
+-- the number found is the definition's
+number : (c : tie.After-tested2) → c.tested2.result ≡ write_number c.before.before.before.before.before.args.held c.before.before.before.before.before.args.out.now
+number c =
+    c.tested2.ensures
+    ∙ rw (c.before.tested.ensures, c.before.before.held-ok.ensures, c.before.before.before.image-length.ensures)
+    (write_number_lem c.before.before.before.before.before.args.held c.before.before.before.before.before.args.out.now)
+
+pub put_bench-requires : goal.put_bench-requires
+put_bench-requires c =
+    let args = c.args in
+    let ok = writes args.held args.out.now (sym (number c.before.before) ∙ c.if-n-eq0.true) in
+    (ok.rules, ok.room)
+
+pub returns-then-n-eq0 : goal.returns-then-n-eq0
+returns-then-n-eq0 c =
+    let args = c.args in
+    let none = sym (number c.before.before.before.before.before) ∙ c.if-n-eq0.true in
+    let ok = writes args.held args.out.now none in
+    wrote args.held args.out.now none (c.image_length-length.ensures ∙ sym (held-length args.held ok.rules)) c.put_bench.ensures
+
+pub returns-else-n-eq0 : goal.returns-else-n-eq0
+returns-else-n-eq0 c =
+    let args = c.args in
+    wrote_nothing args.held args.out.now (number c.before) c.if-n-eq0.false
