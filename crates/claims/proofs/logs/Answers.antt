@@ -27,7 +27,7 @@ abbrev Lie : List Entry → List Entry → ℕ → Type 0
 Lie es places n = (places ≡ padded 256 zero_entry es) × (n ≡ length es)
 
 long-table : (start : tie.Start invariant-loop2 decreases-loop2 invariant-loop decreases-loop) → length start.args.t1 ≡ 32
-long-table start = start.well-formed.0.1.0.1
+long-table start = start.well_formed.0.1.0.1
 
 -- what an array has past its end
 abbrev none : Purse

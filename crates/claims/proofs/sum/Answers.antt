@@ -25,10 +25,10 @@ use Rattle.claims.proofs.Partners.{partner, partner_found, claim_most, bounded_a
 use Rattle.claims.proofs.sum.Goals as goal
 
 long : (start : tie.Start invariant-loop2 decreases-loop2 invariant-loop3 decreases-loop3 invariant-loop decreases-loop) → length start.args.t2.places ≡ 256
-long start = simp length-map at start.well-formed.1.0.1.1.0.1.0.1
+long start = start.well_formed.1.0.1.1.0.1.0.1
 
 long-entries : (start : tie.Start invariant-loop2 decreases-loop2 invariant-loop3 decreases-loop3 invariant-loop decreases-loop) → length start.args.t4.places ≡ 256
-long-entries start = simp length-map at start.well-formed.1.1.1.0.1.1.0.1.0.1
+long-entries start = start.well_formed.1.1.1.0.1.1.0.1.0.1
 
 looking : (c : tie.In-loop3 invariant-loop2 decreases-loop2 invariant-loop3 decreases-loop3 invariant-loop decreases-loop) → c.before.loop3.j < c.before.before.if2.end
 looking c = ltb-true _ _ (and_l _ _ c.loop3-test.true)
@@ -98,7 +98,7 @@ loop-s-preserved c =
     (
       c.loop-s.invariant.0,
       omega (arith, c.loop-s-test.true),
-      more_any eqb c.key-k.result c.args.t3 c.loop-s.s 0 (omega (arith, c.loop-s-test.true, c.loop-s.invariant.0, start.well-formed.1.1.0.1.0.1)) c.loop-s.invariant.2 refl,
+      more_any eqb c.key-k.result c.args.t3 c.loop-s.s 0 (omega (arith, c.loop-s-test.true, c.loop-s.invariant.0, c.well_formed.1.1.0.1.0.1)) c.loop-s.invariant.2 refl,
     )
 
 pub loop-j-init : goal.loop-j-init

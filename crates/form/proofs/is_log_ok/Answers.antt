@@ -19,7 +19,7 @@ abbrev told : tie.Start invariant-loop decreases-loop invariant-loop2 decreases-
 told start = logging start.args.t1 start.args.logged start.args.running start.args.next
 
 long : (start : tie.Start invariant-loop decreases-loop invariant-loop2 decreases-loop2) → length start.args.t1 ≡ 8
-long start = start.well-formed.0.1.0.1
+long start = start.well_formed.0.1.0.1
 
 pub loop-i-init : goal.loop-i-init
 loop-i-init c = (omega arith, omega arith, refl)

@@ -11,7 +11,7 @@ use Rattle.form.specs.Form.{unused}
 use Rattle.form.proofs.is_log_unused.Goals as goal
 
 long : (start : tie.Start invariant-loop decreases-loop) → length start.args.t1 ≡ 8
-long start = start.well-formed.0.1.0.1
+long start = start.well_formed.0.1.0.1
 
 pub loop-i-init : goal.loop-i-init
 loop-i-init c = (omega arith, refl)

@@ -13,7 +13,7 @@ use Rattle.parts.proofs.put_purse.Goals as goal
 pub returns-then-left-lt-PURSE_WIDTH : goal.returns-then-left-lt-PURSE_WIDTH
 returns-then-left-lt-PURSE_WIDTH c =
     let p = c.args.p in
-    let long : length p.log ≡ 8 = simp length-map at start.well-formed.1.1.0.1.1.1.1.1.1.0.1.0.1 in
+    let long : length p.log ≡ 8 = c.well_formed.1.1.0.1.1.1.1.1.1.0.1.0.1 in
     (sym (put_nowhere _ _ _ _ (omega arith)), purse_coded.wide p long)
 
 pub returns : goal.returns

@@ -8,5 +8,5 @@ use Rattle.table.proofs.held_ok.Goals as goal
 pub returns : goal.returns
 returns c =
     let h = c.args.held in
-    let long : length h.table ≡ 32 = simp length-map at start.well-formed.0.1.1.0.1.0.1 in
+    let long : length h.table ≡ 32 = c.well_formed.0.1.1.0.1.0.1 in
     held-asked h long (rw (c.records_ok.ensures, c.messages_ok.ensures, c.entries_ok.ensures))

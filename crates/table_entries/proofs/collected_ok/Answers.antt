@@ -20,10 +20,10 @@ use Rattle.table_records.proofs.Lookups.{entry_at}
 use Rattle.table_entries.proofs.collected_ok.Goals as goal
 
 long-table : (start : tie.Start invariant-loop2 decreases-loop2 invariant-loop3 decreases-loop3 invariant-loop decreases-loop) → length start.args.t1 ≡ 32
-long-table start = start.well-formed.0.1.0.1
+long-table start = start.well_formed.0.1.0.1
 
 long : (start : tie.Start invariant-loop2 decreases-loop2 invariant-loop3 decreases-loop3 invariant-loop decreases-loop) → length start.args.t2.places ≡ 256
-long start = simp length-map at start.well-formed.1.0.1.1.0.1.0.1
+long start = start.well_formed.1.0.1.1.0.1.0.1
 
 element-copy-out-e :
     tie.Need-element-copy-out-e invariant-loop2 decreases-loop2 invariant-loop3 decreases-loop3 invariant-loop decreases-loop

@@ -11,7 +11,7 @@ use Rattle.rules.specs.Laid.{is_zero_entry}
 use Rattle.table_entries.proofs.places_ok.Goals as goal
 
 long : (start : tie.Start invariant-loop decreases-loop) → length start.args.t1.places ≡ 256
-long start = simp length-map at start.well-formed.0.1.1.0.1.0.1
+long start = start.well_formed.0.1.1.0.1.0.1
 
 pub loop-i-init : goal.loop-i-init
 loop-i-init c = refl

@@ -19,10 +19,10 @@ use Rattle.table_records.proofs.Lookups.{message_at_lem}
 use Rattle.table_messages.proofs.standing_ok.Goals as goal
 
 long-table : (start : tie.Start invariant-loop2 decreases-loop2 invariant-loop3 decreases-loop3 invariant-loop decreases-loop) → length start.args.t1 ≡ 32
-long-table start = start.well-formed.0.1.0.1
+long-table start = start.well_formed.0.1.0.1
 
 long : (start : tie.Start invariant-loop2 decreases-loop2 invariant-loop3 decreases-loop3 invariant-loop decreases-loop) → length start.args.t2.places ≡ 256
-long start = simp length-map at start.well-formed.1.0.1.1.0.1.0.1
+long start = start.well_formed.1.0.1.1.0.1.0.1
 
 element-copy-out-m :
     tie.Need-element-copy-out-m invariant-loop2 decreases-loop2 invariant-loop3 decreases-loop3 invariant-loop decreases-loop

@@ -14,7 +14,7 @@ returns-then-p-lt-LOG_PLACES c = rw c.in-Append.is
 pub returns-else-p-lt-LOG_PLACES : goal.returns-else-p-lt-LOG_PLACES
 returns-else-p-lt-LOG_PLACES c =
     let p = c.args.p in
-    let long : length p.log ≡ 8 = simp length-map at start.well-formed.0.1.1.1.1.1.1.0.1.0.1 in
+    let long : length p.log ≡ 8 = c.well_formed.0.1.1.1.1.1.1.0.1.0.1 in
     let out : set p.log p.logged p.details ≡ p.log = set_out p.log p.logged p.details (omega (arith, c.if-p-lt-LOG_PLACES.false)) in
     rw (c.in-Append.is, out)
 

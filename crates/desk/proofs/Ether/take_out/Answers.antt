@@ -26,7 +26,7 @@ loop-i-init c =
 pub loop-i-preserved : goal.loop-i-preserved
 loop-i-preserved c =
     let args = c.args in
-    let long : length args.self.places ≡ 256 = simp length-map at at-loop.before.before.before.before.well-formed.0.1.1.0.1.0.1 in (
+    let long : length args.self.places ≡ 256 = c.well_formed.0.1.1.0.1.0.1 in (
       omega arith,
       omega arith,
       again args.at c.loop-i.i args.self.places c.loop-i.places zero_message c.loop-i.invariant.0 (omega arith) c.loop-i.invariant.2,
@@ -36,7 +36,7 @@ pub returns : goal.returns
 unfolding taken_out
 returns c =
     let args = c.args in
-    let long : length args.self.places ≡ 256 = simp length-map at at-loop.before.before.before.before.well-formed.0.1.1.0.1.0.1 in
+    let long : length args.self.places ≡ 256 = c.well_formed.0.1.1.0.1.0.1 in
     let full : c.loop-i.i ≡ 255 = omega arith in
     let e = ends args.at c.loop-i.i args.self.places c.loop-i.places zero_message c.loop-i.invariant.0 (omega arith) c.loop-i.invariant.2 in
     let e2 : set c.loop-i.places 255 c.zero.result ≡ pulled args.at zero_message args.self.places =

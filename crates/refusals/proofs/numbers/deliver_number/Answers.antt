@@ -12,4 +12,4 @@ returns c =
     let p = c.args.h in
     let m = c.args.m in
     three_walk (ltb 31 c.args.own.0) (not (expected p m)) (not (fits p m.kind)) 4 13 2 refl c.tested-n.ensures
-    (rw c.expects.ensures at c.tested-n-2.ensures) (rw c.before.fits2.ensures at c.tested.ensures)
+    (rw c.expects.ensures at c.tested-n-2.ensures) (rw c.fits.ensures at c.tested.ensures)

@@ -15,7 +15,7 @@ returns-in-3 c = simp (of_acknowledge c.args.h c.args.m c.in-3.is, c.same-same.e
 
 pub returns-in-0 : goal.returns-in-0
 returns-in-0 c =
-    let z : c.args.m.kind ≡ 0 = c.in-0.is in
+    let z : c.args.m.kind ≡ 0 = c.in-0.in-0-own.keys4 in
     simp (of_none c.args.h c.args.m (λ (h : c.args.m.kind ≡ 1). omega arith) (λ (h : c.args.m.kind ≡ 2). omega arith) (λ (h : c.args.m.kind ≡ 3). omega arith))
 
 pub returns-in-0-2 : goal.returns-in-0-2

@@ -17,7 +17,7 @@ returns-in-2 c =
 
 pub returns-in-0 : goal.returns-in-0
 unfolding fits
-returns-in-0 c = simp c.in-0.is
+returns-in-0 c = simp c.in-0.in-0-own.keys3
 
 pub returns-in-0-2 : goal.returns-in-0-2
 unfolding fits

@@ -15,7 +15,7 @@ loop-i-init c = (omega arith, omega arith, refl)
 pub loop-i-preserved : goal.loop-i-preserved
 loop-i-preserved c =
     let p = c.args.t1 in
-    let long : length p.log ≡ 8 = simp length-map at start.well-formed.0.1.1.1.1.1.1.0.1.0.1 in (
+    let long : length p.log ≡ 8 = c.well_formed.0.1.1.1.1.1.1.0.1.0.1 in (
       c.loop-i.invariant.0,
       omega arith,
       more_any same_details c.args.d p.log c.loop-i.i zero_details (omega arith) c.loop-i.invariant.2 c.same-hit.ensures,
@@ -24,5 +24,5 @@ loop-i-preserved c =
 pub returns : goal.returns
 returns c =
     let p = c.args.t1 in
-    let long : length p.log ≡ 8 = simp length-map at start.well-formed.0.1.1.1.1.1.1.0.1.0.1 in
+    let long : length p.log ≡ 8 = c.well_formed.0.1.1.1.1.1.1.0.1.0.1 in
     walked_all (among same_details c.args.d) p.log p.logged 8 c.loop-i.i long c.at_most-count.ensures (omega arith) c.loop-i.invariant.2

@@ -18,7 +18,7 @@ use Rattle.table_records.proofs.Record.{used_at, records_parts}
 use Rattle.table_records.proofs.records.records_ok.Goals as goal
 
 long : (start : tie.Start invariant-loop decreases-loop invariant-loop2 decreases-loop2) → length start.args.t1 ≡ 32
-long start = start.well-formed.0.1.0.1
+long start = start.well_formed.0.1.0.1
 
 pub loop-i-init : goal.loop-i-init
 loop-i-init c = (omega arith, omega arith, refl)
