@@ -25,13 +25,12 @@ pub loop-i-init : goal.loop-i-init
 loop-i-init c = (omega arith, omega arith, refl)
 
 pub loop-i-preserved : goal.loop-i-preserved
-loop-i-preserved c =
-    (
-      c.loop-i.invariant.0,
-      omega arith,
-      more_every (used_at c.args.own (told start)) c.loop-i.i true c.loop-i.invariant.2
-          (rw (c.is_place_ok.ensures, c.is_absent.ensures)),
-    )
+loop-i-preserved c = (
+  c.loop-i.invariant.0,
+  omega arith,
+  more_every (used_at c.args.own (told start)) c.loop-i.i true c.loop-i.invariant.2
+      (rw (c.is_place_ok.ensures, c.is_absent.ensures)),
+)
 
 pub loop-rest-init : goal.loop-rest-init
 loop-rest-init c = refl

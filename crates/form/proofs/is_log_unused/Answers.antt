@@ -17,11 +17,10 @@ pub loop-i-init : goal.loop-i-init
 loop-i-init c = (omega arith, refl)
 
 pub loop-i-preserved : goal.loop-i-preserved
-loop-i-preserved c =
-    (
-      omega arith,
-      more_all unused c.args.t1 c.loop-i.i zero_details (omega (arith, long start)) c.loop-i.invariant.1 c.is_unused-ok.ensures,
-    )
+loop-i-preserved c = (
+  omega arith,
+  more_all unused c.args.t1 c.loop-i.i zero_details (omega (arith, long start)) c.loop-i.invariant.1 c.is_unused-ok.ensures,
+)
 
 pub returns : goal.returns
 returns c =
