@@ -10,7 +10,7 @@ use Rattle.table_records.proofs.Same.{entry_key_lem}
 use Rattle.table_records.proofs.Asked.{key_more, keys_all}
 use Rattle.claims.proofs.keys_of.Goals as goal
 
-long : (start : tie.Start invariant-loop decreases-loop) → length start.args.t1.places ≡ 256
+long : (start : tie.Start invariant-loop decreases-loop) → length start.args.a.places ≡ 256
 long start = start.well_formed.0.1.1.0.1.0.1
 
 pub loop-i-init : goal.loop-i-init
@@ -20,12 +20,12 @@ pub loop-i-preserved : goal.loop-i-preserved
 loop-i-preserved c =
     (
       omega arith,
-      key_more same_entry entry_key entry_key_lem c.args.t1.places c.loop-i.keys c.loop-i.i c.key.result zero_entry (long start) (omega (arith, c.loop-i-test.true)) c.loop-i.invariant.1 c.key.ensures,
+      key_more same_entry entry_key entry_key_lem c.args.a.places c.loop-i.keys c.loop-i.i c.key.result zero_entry (long start) (omega (arith, c.loop-i-test.true)) c.loop-i.invariant.1 c.key.ensures,
     )
 
 pub returns : goal.returns
 returns c =
-    let l = c.args.t1.places in
+    let l = c.args.a.places in
     let i = c.loop-i.i in
     let full : i ≡ 256 = omega arith in
     keys_all same_entry entry_key entry_key_lem l c.loop-i.keys (long start) (rw full at c.loop-i.invariant.1)

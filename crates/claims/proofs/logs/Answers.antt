@@ -26,7 +26,7 @@ use Rattle.claims.proofs.logs.Goals as goal
 abbrev Lie : List Entry → List Entry → ℕ → Type 0
 Lie es places n = (places ≡ padded 256 zero_entry es) × (n ≡ length es)
 
-long-table : (start : tie.Start invariant-loop2 decreases-loop2 invariant-loop decreases-loop) → length start.args.t1 ≡ 32
+long-table : (start : tie.Start invariant-loop2 decreases-loop2 invariant-loop decreases-loop) → length start.args.table ≡ 32
 long-table start = start.well_formed.0.1.0.1
 
 -- what an array has past its end
@@ -39,11 +39,11 @@ record Fits (table : List Purse) (own : ℕ) : Type 0 where
   eight : length (get_or table own none).log ≡ 8
   few : (get_or table own none).logged ≤ 8
 
-fits-at : (c : tie.In-loop invariant-loop2 decreases-loop2 invariant-loop decreases-loop) → Fits c.before.before.before.args.t1 c.before.loop.own_val
+fits-at : (c : tie.In-loop invariant-loop2 decreases-loop2 invariant-loop decreases-loop) → Fits c.before.before.before.args.table c.before.loop.own
 fits-at c =
     let start = c.before.before.before in
-    let own = c.before.loop.own_val in
-    let l = start.args.t1 in
+    let own = c.before.loop.own in
+    let l = start.args.table in
     let less : own < length l = omega (arith, long-table start, start.requires.0, c.loop-test.true) in
     let p : Purse = get_or l own none in
     let ok : log_fits p ≡ true =
@@ -72,7 +72,7 @@ overflow_cast-count c =
 
 pub loop-i-init : goal.loop-i-init
 loop-i-init c =
-    let so_far = append-nil (log_entries c.loop-own.own_val c.args.t1) in
+    let so_far = append-nil (log_entries c.loop-own.own c.args.table) in
     ((fits-at c.before).few, omega arith, omega (arith, c.loop-own.invariant.1), (c.loop-own.invariant.2.0 ∙ ap (padded 256 zero_entry) (sym so_far), c.loop-own.invariant.2.1 ∙ ap length (sym so_far)))
 
 pub bounds-places-n : goal.bounds-places-n
@@ -85,8 +85,8 @@ overflow_add-n c =
 
 pub loop-i-preserved : goal.loop-i-preserved
 loop-i-preserved c =
-    let l = c.args.t1 in
-    let own = c.loop-own.own_val in
+    let l = c.args.table in
+    let own = c.loop-own.own in
     let log = (get_or l own none).log in
     let i = c.loop-i.i in
     let lie = c.loop-i.invariant.3 in
@@ -104,8 +104,8 @@ loop-i-preserved c =
 
 pub loop-own-preserved : goal.loop-own-preserved
 loop-own-preserved c =
-    let l = c.args.t1 in
-    let own = c.loop-own.own_val in
+    let l = c.args.table in
+    let own = c.loop-own.own in
     let lie = c.loop-i.invariant.3 in
     let fits = fits-at in-loop in
     let done : c.loop-i.i ≡ (get_or l own none).logged = omega (arith, c.loop-i.invariant.1, c.loop-i-test.false) in
@@ -114,7 +114,7 @@ loop-own-preserved c =
 
 pub returns : goal.returns
 returns c =
-    let l = c.args.t1 in
+    let l = c.args.table in
     let lie = c.loop-own.invariant.2 in
-    let done : c.loop-own.own_val ≡ c.args.purses = omega (arith, c.loop-own.invariant.0, c.loop-own-test.false) in
+    let done : c.loop-own.own ≡ c.args.purses = omega (arith, c.loop-own.invariant.0, c.loop-own-test.false) in
     (λ k. record { places = lie.0 k; count = lie.1 k }) ∙ ap (λ (n : ℕ). held_as (log_entries n l)) done

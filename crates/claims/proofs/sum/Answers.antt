@@ -24,10 +24,10 @@ use Rattle.claims.specs.Claims.{payee_logged, claim_beside, entry_claim, bounded
 use Rattle.claims.proofs.Partners.{partner, partner_found, claim_most, bounded_at}
 use Rattle.claims.proofs.sum.Goals as goal
 
-long : (start : tie.Start invariant-loop2 decreases-loop2 invariant-loop3 decreases-loop3 invariant-loop decreases-loop) → length start.args.t2.places ≡ 256
+long : (start : tie.Start invariant-loop2 decreases-loop2 invariant-loop3 decreases-loop3 invariant-loop decreases-loop) → length start.args.a.places ≡ 256
 long start = start.well_formed.1.0.1.1.0.1.0.1
 
-long-entries : (start : tie.Start invariant-loop2 decreases-loop2 invariant-loop3 decreases-loop3 invariant-loop decreases-loop) → length start.args.t4.places ≡ 256
+long-entries : (start : tie.Start invariant-loop2 decreases-loop2 invariant-loop3 decreases-loop3 invariant-loop decreases-loop) → length start.args.es.places ≡ 256
 long-entries start = start.well_formed.1.1.1.0.1.1.0.1.0.1
 
 looking : (c : tie.In-loop3 invariant-loop2 decreases-loop2 invariant-loop3 decreases-loop3 invariant-loop decreases-loop) → c.before.loop3.j < c.before.before.if2.end
@@ -42,7 +42,7 @@ module _ (c : tie.After-loop3 invariant-loop2 decreases-loop2 invariant-loop3 de
   start = at-loop.before
 
   abbrev e : Entry
-  e = get_or start.args.t4.places at-loop.loop.i zero_entry
+  e = get_or start.args.es.places at-loop.loop.i zero_entry
 
   abbrev payer : Bool
   payer = eqb e.by.0 e.details.payer.0
@@ -50,7 +50,7 @@ module _ (c : tie.After-loop3 invariant-loop2 decreases-loop2 invariant-loop3 de
   abbrev logged : Bool
   logged = c.before.loop3.logged
 
-  finds : (payer && logged) ≡ (payer && payee_logged (record_of start.args.t1 e.details.payee) start.args.t2 e.details)
+  finds : (payer && logged) ≡ (payer && payee_logged (record_of start.args.table e.details.payee) start.args.a e.details)
   finds =
       let at-loop3 = c.before in
       let looked = at-loop3.before in
@@ -59,8 +59,8 @@ module _ (c : tie.After-loop3 invariant-loop2 decreases-loop2 invariant-loop3 de
       let card = chosen.before in
       let key = card.before.key in
       let other = card.before.before.before.before.before.before.place in
-      let a = start.args.t2 in
-      let keys = start.args.t3 in
+      let a = start.args.a in
+      let keys = start.args.keys in
       let all-keys : at-loop2.loop2.s ≡ chosen.if1.new = omega (arith, at-loop2.loop2.invariant.1, looked.before.loop2-test.false) in
       let done : (at-loop3.loop3.j ≡ looked.if2.end) ⊎ (logged ≡ true) =
       ⊎_elim
@@ -78,14 +78,14 @@ module _ (c : tie.After-loop3 invariant-loop2 decreases-loop2 invariant-loop3 de
       payer
       (⊎_elim (λ w. inl (w.0.taken, w.1)) (λ w. inr (w.0.left, w.1)) chosen.if1.branch)
       card.in-log.ensures
-      ∙ ap (λ (q : Purse). payer && payee_logged q a e.details) (looked_up start.args.t1 e.details.payee other.result _ start.good.0.1.0.1 other.ensures)
+      ∙ ap (λ (q : Purse). payer && payee_logged q a e.details) (looked_up start.args.table e.details.payee other.result _ start.good.0.1.0.1 other.ensures)
 
-  adds : cond (payer && logged) e.details.amount.0 0 ≡ entry_claim start.args.t1 start.args.t2 e
+  adds : cond (payer && logged) e.details.amount.0 0 ≡ entry_claim start.args.table start.args.a e
   unfolding claim_beside
   adds = ap (λ (t : Bool). cond t e.details.amount.0 0) finds
 
   legal : bounded e ≡ true
-  legal = bounded_at start.args.t4.places start.args.t4.count at-loop.loop.i zero_entry (omega (arith, long-entries start, start.pre.2)) (omega (arith, c.before.before.before.before.before.before.before.before.before.before.before.before.before.before.before.loop-test.true)) start.pre.3
+  legal = bounded_at start.args.es.places start.args.es.count at-loop.loop.i zero_entry (omega (arith, long-entries start, start.pre.2)) (omega (arith, c.before.before.before.before.before.before.before.before.before.before.before.before.before.before.before.loop-test.true)) start.pre.3
 
 pub loop-i-init : goal.loop-i-init
 loop-i-init c = (omega arith, refl, omega arith)
@@ -98,7 +98,7 @@ loop-s-preserved c =
     (
       c.loop-s.invariant.0,
       omega (arith, c.loop-s-test.true),
-      more_any eqb c.key-k.result c.args.t3 c.loop-s.s 0 (omega (arith, c.loop-s-test.true, c.loop-s.invariant.0, c.well_formed.1.1.0.1.0.1)) c.loop-s.invariant.2 refl,
+      more_any eqb c.key-k.result c.args.keys c.loop-s.s 0 (omega (arith, c.loop-s-test.true, c.loop-s.invariant.0, c.well_formed.1.1.0.1.0.1)) c.loop-s.invariant.2 refl,
     )
 
 pub loop-j-init : goal.loop-j-init
@@ -117,9 +117,9 @@ loop-j-smaller c =
 pub loop-j-preserved : goal.loop-j-preserved
 loop-j-preserved c =
     let on-card = c.in_log-on_card.result in
-    let l = c.args.t2.places in
+    let l = c.args.a.places in
     let j = c.loop-j.j in
-    let x : Entry = partner (get_or c.args.t4.places c.loop-i.i zero_entry) in
+    let x : Entry = partner (get_or c.args.es.places c.loop-i.i zero_entry) in
     let less = looking c.before.before in
     let inside : j < length l = omega (arith, less, c.loop-j.invariant.0, long start) in (
       c.loop-j.invariant.0,
@@ -137,19 +137,19 @@ overflow_add-sum c =
 pub loop-i-preserved : goal.loop-i-preserved
 loop-i-preserved c =
     let before = (at-loop turn).loop in
-    let w : Entry → ℕ = entry_claim (start turn).args.t1 (start turn).args.t2 in
-    let l = (start turn).args.t4.places in
+    let w : Entry → ℕ = entry_claim (start turn).args.table (start turn).args.a in
+    let l = (start turn).args.es.places in
     let i = before.i in
-    let less : i < (start turn).args.t4.count = omega (arith, c.loop-i-test.true) in
+    let less : i < (start turn).args.es.count = omega (arith, c.loop-i-test.true) in
     let added : c.if-payer-logged.sum ≡ before.sum + w (e turn) =
     ⊎_elim
     (λ v. v.2 ∙ ap (λ (n : ℕ). before.sum + n) (ap (λ (t : Bool). cond t (e turn).details.amount.0 0) (sym v.0.taken) ∙ adds turn))
     (λ v. v.1 ∙ omega (arith, adds turn, ap (λ (t : Bool). cond t (e turn).details.amount.0 0) v.0.left))
     c.if-payer-logged.branch in
     let next : total w (take (i + 1) l) ≡ total w (take i l) + w (e turn) = total-next w l i zero_entry (omega (arith, less, (start turn).requires.2, long-entries (start turn))) in
-    (omega (arith, less), omega (arith, added, next, before.inv.1), omega (arith, added, before.inv.2, claim_most (record_of (start turn).args.t1 (e turn).details.payee) (start turn).args.t2 (e turn) (legal turn)))
+    (omega (arith, less), omega (arith, added, next, before.inv.1), omega (arith, added, before.inv.2, claim_most (record_of (start turn).args.table (e turn).details.payee) (start turn).args.a (e turn) (legal turn)))
 
 pub returns : goal.returns
 returns c =
-    let done : c.loop-i.i ≡ c.args.t4.count = omega (arith, c.loop-i.invariant.0, c.loop-i-test.false) in
-    c.loop-i.invariant.1 ∙ ap (λ (n : ℕ). total (entry_claim c.args.t1 c.args.t2) (take n c.args.t4.places)) done
+    let done : c.loop-i.i ≡ c.args.es.count = omega (arith, c.loop-i.invariant.0, c.loop-i-test.false) in
+    c.loop-i.invariant.1 ∙ ap (λ (n : ℕ). total (entry_claim c.args.table c.args.a) (take n c.args.es.places)) done

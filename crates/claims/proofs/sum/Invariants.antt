@@ -19,7 +19,7 @@ abbrev pub decreases-loop-s : goal.decreases-loop-s
 decreases-loop-s l = l.last - l.s
 
 abbrev pub invariant-loop-j : goal.invariant-loop-j
-invariant-loop-j l = (l.end ≤ 256) × (l.j ≤ l.end) × (l.logged ≡ (l.on-card || among same_entry l.partner (take l.j l.a.places)))
+invariant-loop-j l = (l.end ≤ 256) × (l.j ≤ l.end) × (l.logged ≡ (l.on_card || among same_entry l.partner (take l.j l.a.places)))
 
 abbrev pub decreases-loop-j : goal.decreases-loop-j
 decreases-loop-j l = l.end - l.j

@@ -46,11 +46,11 @@ pub returns-else-other-num-3 : goal.returns-else-other-num-3
 returns-else-other-num-3 c = simp (c.in-8.is, c.if-other-num-3.false)
 
 pub returns-in-0 : goal.returns-in-0
-returns-in-0 c = simp c.in-0.is
+returns-in-0 c = simp c.in-0.in-0-own.keys9
 
 pub returns-in-0-2 : goal.returns-in-0-2
 returns-in-0-2 c =
-    let no = c.in-0.is in
+    let no = c.in-0.in-0-own.rest in
     simp (
       ne_eqb _ 1 no.0.0.0.0.0.0.0.0.1,
       ne_eqb _ 2 no.0.0.0.0.0.0.0.1,

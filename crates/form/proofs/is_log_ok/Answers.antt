@@ -13,12 +13,13 @@ use Rattle.form.specs.Form.{unused, logging}
 use Rattle.form.proofs.Parts.{used_at, log_parts}
 use borrow.Author.Rules.{rules}
 use Rattle.form.proofs.is_log_ok.Goals as goal
+use Rattle.form.proofs.is_log_ok.Goals.{Start}
 
 -- the log, its count and what its rules read, as they are handed in
-abbrev told : tie.Start invariant-loop decreases-loop invariant-loop2 decreases-loop2 → Purse
-told start = logging start.args.t1 start.args.logged start.args.running start.args.next
+abbrev told : Start → Purse
+told start = logging start.args.log start.args.logged start.args.running start.args.next
 
-long : (start : tie.Start invariant-loop decreases-loop invariant-loop2 decreases-loop2) → length start.args.t1 ≡ 8
+long : (start : Start) → length start.args.log ≡ 8
 long start = start.well_formed.0.1.0.1
 
 pub loop-i-init : goal.loop-i-init
@@ -28,7 +29,7 @@ pub loop-i-preserved : goal.loop-i-preserved
 loop-i-preserved c = (
   c.loop-i.invariant.0,
   omega arith,
-  more_every (used_at c.args.own (told start)) c.loop-i.i true c.loop-i.invariant.2
+  more_every (used_at c.args.own (told (goal.at.loop-i-preserved c).Start)) c.loop-i.i true c.loop-i.invariant.2
       (rw (c.is_place_ok.ensures, c.is_absent.ensures)),
 )
 
@@ -36,11 +37,12 @@ pub loop-rest-init : goal.loop-rest-init
 loop-rest-init c = refl
 
 pub loop-rest-preserved : goal.loop-rest-preserved
-loop-rest-preserved c = rest_more unused c.args.t1 c.loop-rest.rest zero_details c.loop-rest.ok (omega (arith, long start)) c.loop-rest.invariant c.is_unused-ok.ensures
+loop-rest-preserved c = rest_more unused c.args.log c.loop-rest.rest zero_details c.loop-rest.ok (omega (arith, long (goal.at.loop-rest-preserved c).Start)) c.loop-rest.invariant c.is_unused-ok.ensures
 
 pub returns : goal.returns
 returns c =
-    let l = c.args.t1 in
+    let start = (goal.at.returns c).Start in
+    let l = c.args.log in
     let used = c.used_places-used.result in
     let full : c.loop-i.i ≡ used = omega arith in
     let rest : c.loop-rest.ok ≡ (c.loop-i.ok && all unused (drop used l)) =

@@ -20,7 +20,7 @@ loop-i-preserved c =
     let args = c.args in
     let inv = c.loop-i.invariant.1 in
     let called = c.put_details.ensures in
-    let log = args.t3 in
+    let log = args.log in
     let long : length log ≡ 8 = search rules in (
       omega arith,
       wrote_more details_bytes details_width args.out.now args.at log c.loop-i.i zero_details (omega arith) inv
@@ -30,7 +30,7 @@ loop-i-preserved c =
 pub returns : goal.returns
 returns c =
     let args = c.args in
-    let log = args.t3 in
+    let log = args.log in
     let long : length log ≡ 8 = search rules in
     let all : take 8 log ≡ log = take_all 8 log (omega arith) in
     let end = rw all at (wrote_all details_bytes details_width args.out.now args.at log 8 (omega arith) c.loop-i.invariant.1) in

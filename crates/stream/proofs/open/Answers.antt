@@ -14,4 +14,4 @@ slice_bounds-opening-end c = sym (length-take-le _ _ (search rules))
 pub returns : goal.returns
 returns c =
     let args = c.args in
-    c.opening.ensures ∙ ap (λ (h : Held). held_opening h (take args.count args.t1)) c.nothing.ensures
+    c.opening.ensures ∙ ap (λ (h : Held). held_opening h (take args.count args.balances)) c.nothing.ensures

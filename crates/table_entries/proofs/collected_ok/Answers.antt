@@ -19,10 +19,10 @@ use Rattle.table_records.proofs.Asked.{too_many, one_bad, one_before, none_bad, 
 use Rattle.table_records.proofs.Lookups.{entry_at}
 use Rattle.table_entries.proofs.collected_ok.Goals as goal
 
-long-table : (start : tie.Start invariant-loop2 decreases-loop2 invariant-loop3 decreases-loop3 invariant-loop decreases-loop) → length start.args.t1 ≡ 32
+long-table : (start : tie.Start invariant-loop2 decreases-loop2 invariant-loop3 decreases-loop3 invariant-loop decreases-loop) → length start.args.table ≡ 32
 long-table start = start.well_formed.0.1.0.1
 
-long : (start : tie.Start invariant-loop2 decreases-loop2 invariant-loop3 decreases-loop3 invariant-loop decreases-loop) → length start.args.t2.places ≡ 256
+long : (start : tie.Start invariant-loop2 decreases-loop2 invariant-loop3 decreases-loop3 invariant-loop decreases-loop) → length start.args.archive.places ≡ 256
 long start = start.well_formed.1.0.1.1.0.1.0.1
 
 element-copy-out-e :
@@ -38,17 +38,17 @@ element-copy-out-o :
 element-copy-out-o c = omega (arith, c.before.loop3.invariant.0, c.before.loop3.invariant.1, c.loop3-test.true)
 
 -- what the search found
-searched : (c : tie.After-loop3 invariant-loop2 decreases-loop2 invariant-loop3 decreases-loop3 invariant-loop decreases-loop) → c.before.loop3.again ≡ among same_entry (get_or c.before.before.before.before.before.before.before.before.before.before.before.before.before.before.args.t2.places c.before.before.before.before.before.before.before.before.before.before.before.before.loop.i zero_entry) (take c.before.before.before.before.before.before.before.before.before.before.before.before.loop.i c.before.before.before.before.before.before.before.before.before.before.before.before.before.before.args.t2.places)
+searched : (c : tie.After-loop3 invariant-loop2 decreases-loop2 invariant-loop3 decreases-loop3 invariant-loop decreases-loop) → c.before.loop3.again ≡ among same_entry (get_or c.before.before.before.before.before.before.before.before.before.before.before.before.before.before.args.archive.places c.before.before.before.before.before.before.before.before.before.before.before.before.loop.i zero_entry) (take c.before.before.before.before.before.before.before.before.before.before.before.before.loop.i c.before.before.before.before.before.before.before.before.before.before.before.before.before.before.args.archive.places)
 searched c =
     let at-loop3 = c.before in
-    let l = c.before.before.before.before.before.before.before.before.before.before.before.before.before.before.args.t2.places in
+    let l = c.before.before.before.before.before.before.before.before.before.before.before.before.before.before.args.archive.places in
     let i = c.before.before.before.before.before.before.before.before.before.before.before.before.loop.i in
     let full : at-loop3.loop3.j ≡ at-loop3.before.if3.end = omega (arith, at-loop3.loop3.invariant.2, c.loop3-test.false) in
     at-loop3.loop3.invariant.3 ∙ ap (λ (n : ℕ). among same_entry (get_or l i zero_entry) (take n l)) full ∙ at-loop3.loop3.invariant.4
 
 pub returns-then-count-gt256 : goal.returns-then-count-gt256
 unfolding collected_ok
-returns-then-count-gt256 c = too_many (entry_in c.args.purses c.args.t1) same_entry c.args.t2.places c.args.t2.count (omega arith)
+returns-then-count-gt256 c = too_many (entry_in c.args.purses c.args.table) same_entry c.args.archive.places c.args.archive.count (omega arith)
 
 pub loop-i-init : goal.loop-i-init
 loop-i-init c = (omega arith, omega arith, refl, refl, (refl, refl))
@@ -56,9 +56,9 @@ loop-i-init c = (omega arith, omega arith, refl, refl, (refl, refl))
 pub returns-then-not-entry_beside : goal.returns-then-not-entry_beside
 unfolding collected_ok
 returns-then-not-entry_beside c =
-    let l = c.args.t2.places in
-    let n = c.args.t2.count in
-    let t = c.args.t1 in
+    let l = c.args.archive.places in
+    let n = c.args.archive.count in
+    let t = c.args.table in
     let i = c.loop-i.i in
     let fits : n ≤ 256 = c.loop-i.invariant.0 in
     let less : i < n = omega arith in
@@ -71,9 +71,9 @@ loop-s-init c = (omega arith, refl)
 
 pub loop-s-preserved : goal.loop-s-preserved
 loop-s-preserved c =
-    let l = c.args.t2.places in
-    let n = c.args.t2.count in
-    let t = c.args.t1 in
+    let l = c.args.archive.places in
+    let n = c.args.archive.count in
+    let t = c.args.table in
     let i = c.loop-i.i in
     let j = c.loop-s.s in
     let keys = c.loop-i.keys in
@@ -87,7 +87,7 @@ loop-s-preserved c =
 -- the places looked through settle it: all those before, or none where the key was not found
 pub loop-j-init : goal.loop-j-init
 loop-j-init c =
-    let l = c.args.t2.places in
+    let l = c.args.archive.places in
     let i = c.loop-i.i in
     let x = get_or l i zero_entry in
     let full : c.loop-s.s ≡ i = omega (arith, c.loop-s.invariant.0, c.loop-s-test.false) in
@@ -100,7 +100,7 @@ loop-j-init c =
 
 pub loop-j-preserved : goal.loop-j-preserved
 loop-j-preserved c =
-    let l = c.args.t2.places in
+    let l = c.args.archive.places in
     let i = c.loop-i.i in
     let j = c.loop-j.j in
     let below : j < c.if-hit.end = c.loop-j-test.true in
@@ -115,15 +115,15 @@ loop-j-preserved c =
 pub returns-then-again : goal.returns-then-again
 unfolding collected_ok
 returns-then-again c =
-    let n = c.args.t2.count in
+    let n = c.args.archive.count in
     let less : c.loop-i.i < n = omega (arith, c.loop-i-test.true) in
-    one_before (entry_in c.args.purses c.args.t1) same_entry c.args.t2.places n zero_entry (long start) c.loop-i.invariant.0 turn_entry c.loop-i.i less (searched c.before) c.if-again.true
+    one_before (entry_in c.args.purses c.args.table) same_entry c.args.archive.places n zero_entry (long start) c.loop-i.invariant.0 turn_entry c.loop-i.i less (searched c.before) c.if-again.true
 
 pub loop-i-preserved : goal.loop-i-preserved
 loop-i-preserved c =
-    let l = c.args.t2.places in
-    let n = c.args.t2.count in
-    let t = c.args.t1 in
+    let l = c.args.archive.places in
+    let n = c.args.archive.count in
+    let t = c.args.table in
     let i = c.loop-i.i in
     let keys = c.loop-i.keys in
     let less : i < n = omega (arith, c.loop-i-test.true) in
@@ -141,7 +141,7 @@ loop-i-preserved c =
 pub returns : goal.returns
 unfolding collected_ok
 returns c =
-    let l = c.args.t2.places in
-    let n = c.args.t2.count in
+    let l = c.args.archive.places in
+    let n = c.args.archive.count in
     let fits : n ≤ 256 = c.loop-i.invariant.0 in
-    none_bad (entry_in c.args.purses c.args.t1) same_entry l n zero_entry (long start) fits c.loop-i.i (omega arith) c.loop-i.invariant.2 c.loop-i.invariant.3
+    none_bad (entry_in c.args.purses c.args.table) same_entry l n zero_entry (long start) fits c.loop-i.i (omega arith) c.loop-i.invariant.2 c.loop-i.invariant.3

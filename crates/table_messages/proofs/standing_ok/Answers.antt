@@ -18,10 +18,10 @@ use Rattle.table_records.proofs.Asked.{too_many, one_bad, one_before, none_bad, 
 use Rattle.table_records.proofs.Lookups.{message_at_lem}
 use Rattle.table_messages.proofs.standing_ok.Goals as goal
 
-long-table : (start : tie.Start invariant-loop2 decreases-loop2 invariant-loop3 decreases-loop3 invariant-loop decreases-loop) → length start.args.t1 ≡ 32
+long-table : (start : tie.Start invariant-loop2 decreases-loop2 invariant-loop3 decreases-loop3 invariant-loop decreases-loop) → length start.args.table ≡ 32
 long-table start = start.well_formed.0.1.0.1
 
-long : (start : tie.Start invariant-loop2 decreases-loop2 invariant-loop3 decreases-loop3 invariant-loop decreases-loop) → length start.args.t2.places ≡ 256
+long : (start : tie.Start invariant-loop2 decreases-loop2 invariant-loop3 decreases-loop3 invariant-loop decreases-loop) → length start.args.ether.places ≡ 256
 long start = start.well_formed.1.0.1.1.0.1.0.1
 
 element-copy-out-m :
@@ -45,17 +45,17 @@ element-copy-out-o :
 element-copy-out-o c = omega (arith, c.before.loop3.invariant.0, c.before.loop3.invariant.1, c.loop3-test.true)
 
 -- what the search found
-searched : (c : tie.After-loop3 invariant-loop2 decreases-loop2 invariant-loop3 decreases-loop3 invariant-loop decreases-loop) → c.before.loop3.again ≡ among same_message (get_or c.before.before.before.before.before.before.before.before.before.before.before.before.before.before.before.before.args.t2.places c.before.before.before.before.before.before.before.before.before.before.before.before.before.before.loop.i zero_message) (take c.before.before.before.before.before.before.before.before.before.before.before.before.before.before.loop.i c.before.before.before.before.before.before.before.before.before.before.before.before.before.before.before.before.args.t2.places)
+searched : (c : tie.After-loop3 invariant-loop2 decreases-loop2 invariant-loop3 decreases-loop3 invariant-loop decreases-loop) → c.before.loop3.again ≡ among same_message (get_or c.before.before.before.before.before.before.before.before.before.before.before.before.before.before.before.before.args.ether.places c.before.before.before.before.before.before.before.before.before.before.before.before.before.before.loop.i zero_message) (take c.before.before.before.before.before.before.before.before.before.before.before.before.before.before.loop.i c.before.before.before.before.before.before.before.before.before.before.before.before.before.before.before.before.args.ether.places)
 searched c =
     let at-loop3 = c.before in
-    let l = c.before.before.before.before.before.before.before.before.before.before.before.before.before.before.before.before.args.t2.places in
+    let l = c.before.before.before.before.before.before.before.before.before.before.before.before.before.before.before.before.args.ether.places in
     let i = c.before.before.before.before.before.before.before.before.before.before.before.before.before.before.loop.i in
     let full : at-loop3.loop3.j ≡ at-loop3.before.if3.end = omega (arith, at-loop3.loop3.invariant.2, c.loop3-test.false) in
     at-loop3.loop3.invariant.3 ∙ ap (λ (n : ℕ). among same_message (get_or l i zero_message) (take n l)) full ∙ at-loop3.loop3.invariant.4
 
 pub returns-then-count-gt256 : goal.returns-then-count-gt256
 unfolding standing_ok
-returns-then-count-gt256 c = too_many (message_in c.args.purses c.args.t1) same_message c.args.t2.places c.args.t2.count (omega arith)
+returns-then-count-gt256 c = too_many (message_in c.args.purses c.args.table) same_message c.args.ether.places c.args.ether.count (omega arith)
 
 pub loop-i-init : goal.loop-i-init
 loop-i-init c = (omega arith, omega arith, refl, refl, (refl, refl))
@@ -63,9 +63,9 @@ loop-i-init c = (omega arith, omega arith, refl, refl, (refl, refl))
 pub returns-then-not-message_beside : goal.returns-then-not-message_beside
 unfolding standing_ok
 returns-then-not-message_beside c =
-    let l = c.args.t2.places in
-    let n = c.args.t2.count in
-    let t = c.args.t1 in
+    let l = c.args.ether.places in
+    let n = c.args.ether.count in
+    let t = c.args.table in
     let i = c.loop-i.i in
     let fits : n ≤ 256 = c.loop-i.invariant.0 in
     let less : i < n = omega arith in
@@ -78,9 +78,9 @@ loop-s-init c = (omega arith, refl)
 
 pub loop-s-preserved : goal.loop-s-preserved
 loop-s-preserved c =
-    let l = c.args.t2.places in
-    let n = c.args.t2.count in
-    let t = c.args.t1 in
+    let l = c.args.ether.places in
+    let n = c.args.ether.count in
+    let t = c.args.table in
     let i = c.loop-i.i in
     let j = c.loop-s.s in
     let keys = c.loop-i.keys in
@@ -94,7 +94,7 @@ loop-s-preserved c =
 -- the places looked through settle it: all those before, or none where the key was not found
 pub loop-j-init : goal.loop-j-init
 loop-j-init c =
-    let l = c.args.t2.places in
+    let l = c.args.ether.places in
     let i = c.loop-i.i in
     let x = get_or l i zero_message in
     let full : c.loop-s.s ≡ i = omega (arith, c.loop-s.invariant.0, c.loop-s-test.false) in
@@ -107,7 +107,7 @@ loop-j-init c =
 
 pub loop-j-preserved : goal.loop-j-preserved
 loop-j-preserved c =
-    let l = c.args.t2.places in
+    let l = c.args.ether.places in
     let i = c.loop-i.i in
     let j = c.loop-j.j in
     let below : j < c.if-hit.end = c.loop-j-test.true in
@@ -122,15 +122,15 @@ loop-j-preserved c =
 pub returns-then-again : goal.returns-then-again
 unfolding standing_ok
 returns-then-again c =
-    let n = c.args.t2.count in
+    let n = c.args.ether.count in
     let less : c.loop-i.i < n = omega (arith, c.loop-i-test.true) in
-    one_before (message_in c.args.purses c.args.t1) same_message c.args.t2.places n zero_message (long start) c.loop-i.invariant.0 turn_message c.loop-i.i less (searched c.before) c.if-again.true
+    one_before (message_in c.args.purses c.args.table) same_message c.args.ether.places n zero_message (long start) c.loop-i.invariant.0 turn_message c.loop-i.i less (searched c.before) c.if-again.true
 
 pub loop-i-preserved : goal.loop-i-preserved
 loop-i-preserved c =
-    let l = c.args.t2.places in
-    let n = c.args.t2.count in
-    let t = c.args.t1 in
+    let l = c.args.ether.places in
+    let n = c.args.ether.count in
+    let t = c.args.table in
     let i = c.loop-i.i in
     let keys = c.loop-i.keys in
     let less : i < n = omega (arith, c.loop-i-test.true) in
@@ -148,7 +148,7 @@ loop-i-preserved c =
 pub returns : goal.returns
 unfolding standing_ok
 returns c =
-    let l = c.args.t2.places in
-    let n = c.args.t2.count in
+    let l = c.args.ether.places in
+    let n = c.args.ether.count in
     let fits : n ≤ 256 = c.loop-i.invariant.0 in
-    none_bad (message_in c.args.purses c.args.t1) same_message l n zero_message (long start) fits c.loop-i.i (omega arith) c.loop-i.invariant.2 c.loop-i.invariant.3
+    none_bad (message_in c.args.purses c.args.table) same_message l n zero_message (long start) fits c.loop-i.i (omega arith) c.loop-i.invariant.2 c.loop-i.invariant.3

@@ -8,10 +8,10 @@ use borrow.Author.Rules.{rules}
 use Rattle.card.proofs.log.moved_down.Goals as goal
 
 -- the log has its eight places
-long : (c : tie.Start) → length c.args.t1 ≡ 8
+long : (c : tie.Start) → length c.args.l ≡ 8
 long c = search (rules, unmapped)
 
 pub returns : goal.returns
 returns c =
     rw c.zero-z.ensures
-    (moved c.args.t1 zero_details (long c.before.before.before.before.before.before.before.before))
+    (moved c.args.l zero_details (long c.before.before.before.before.before.before.before.before))

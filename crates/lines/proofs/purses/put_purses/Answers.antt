@@ -34,7 +34,7 @@ pub loop-i-preserved : goal.loop-i-preserved
 loop-i-preserved c =
     let inv = c.loop-i.invariant in
     let i = c.loop-i.i in
-    let table = c.args.t2 in
+    let table = c.args.table in
     let n : ℕ = length table in
     let long : n ≡ 32 = search rules in
     let more : i < length table = omega arith in (

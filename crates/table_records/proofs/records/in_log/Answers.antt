@@ -14,7 +14,7 @@ loop-i-init c = (omega arith, omega arith, refl)
 
 pub loop-i-preserved : goal.loop-i-preserved
 loop-i-preserved c =
-    let p = c.args.t1 in
+    let p = c.args.p in
     let long : length p.log ≡ 8 = c.well_formed.0.1.1.1.1.1.1.0.1.0.1 in (
       c.loop-i.invariant.0,
       omega arith,
@@ -23,6 +23,6 @@ loop-i-preserved c =
 
 pub returns : goal.returns
 returns c =
-    let p = c.args.t1 in
+    let p = c.args.p in
     let long : length p.log ≡ 8 = c.well_formed.0.1.1.1.1.1.1.0.1.0.1 in
     walked_all (among same_details c.args.d) p.log p.logged 8 c.loop-i.i long c.at_most-count.ensures (omega arith) c.loop-i.invariant.2

@@ -17,7 +17,7 @@ loop-i-init c = (omega arith, omega arith, refl)
 
 pub loop-i-preserved : goal.loop-i-preserved
 loop-i-preserved c =
-    let p = c.args.t1 in
+    let p = c.args.p in
     let long : length p.log ≡ 8 = c.well_formed.0.1.1.1.1.1.1.0.1.0.1 in (
       c.loop-i.invariant.0,
       omega arith,
@@ -26,7 +26,7 @@ loop-i-preserved c =
 
 pub returns : goal.returns
 returns c =
-    let p = c.args.t1 in
+    let p = c.args.p in
     let long : length p.log ≡ 8 = c.well_formed.0.1.1.1.1.1.1.0.1.0.1 in
     let n = c.args.purses in
     let k : c.loop-i.ok ≡ all (within n) (kept p) =

@@ -17,7 +17,7 @@ use Rattle.table_records.specs.Records.{names_ok}
 use Rattle.table_records.proofs.Record.{used_at, records_parts}
 use Rattle.table_records.proofs.records.records_ok.Goals as goal
 
-long : (start : tie.Start invariant-loop decreases-loop invariant-loop2 decreases-loop2) → length start.args.t1 ≡ 32
+long : (start : tie.Start invariant-loop decreases-loop invariant-loop2 decreases-loop2) → length start.args.table ≡ 32
 long start = start.well_formed.0.1.0.1
 
 pub loop-i-init : goal.loop-i-init
@@ -25,7 +25,7 @@ loop-i-init c = (omega arith, omega arith, refl)
 
 pub loop-i-preserved : goal.loop-i-preserved
 loop-i-preserved c =
-    let t = c.args.t1 in
+    let t = c.args.table in
     let i = c.loop-i.i in
     let inside : i < length t = omega (arith, long start) in (
       c.loop-i.invariant.0,
@@ -39,14 +39,14 @@ loop-i-2-init c = refl
 
 pub loop-i-2-preserved : goal.loop-i-2-preserved
 loop-i-2-preserved c =
-    let t = c.args.t1 in
+    let t = c.args.table in
     let i = c.loop-i-2.i in
     rest_more is_zero_purse t i zero_purse c.loop-i-2.ok (omega (arith, long start)) c.loop-i-2.invariant
     (c.is_zero-ok.ensures ∙ ap is_zero_purse (at_any t i _ zero_purse (omega (arith, long start))))
 
 pub returns : goal.returns
 returns c =
-    let t = c.args.t1 in
+    let t = c.args.table in
     let many = c.at_most-many.result in
     let full : c.loop-i.i ≡ many = omega arith in
     let rest : c.loop-i-2.ok ≡ (c.loop-i.ok && all is_zero_purse (drop c.loop-i.i t)) =

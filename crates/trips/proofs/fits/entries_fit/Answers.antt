@@ -16,13 +16,13 @@ loop-i-init c = (omega arith, tt)
 
 pub loop-i-preserved : goal.loop-i-preserved
 loop-i-preserved c =
-    let xs = c.args.t1 in
+    let xs = c.args.places in
     let long : length xs ≡ 256 = search rules in
     (omega arith, all_more FitEntry zero_entry xs c.loop-i.i (omega arith) c.loop-i.invariant.1 c.entry_fits.ensures)
 
 pub returns : goal.returns
 returns c =
-    let xs = c.args.t1 in
+    let xs = c.args.places in
     let long : length xs ≡ 256 = search rules in
     let all : take c.loop-i.i xs ≡ xs = take_all c.loop-i.i xs (omega arith) in
     rw all at c.loop-i.invariant.1

@@ -8,6 +8,7 @@ use Rattle.refusals.proofs.Passed.{pay_passed, get_passed}
 use Rattle.turns.specs.Turns.{turn_deliver}
 use Rattle.turns.proofs.Cases.{done_at_lem, refused_at_lem, deliver_request, deliver_value, deliver_other}
 use Rattle.turns.proofs.delivery.deliver.Goals as goal
+use Rattle.turns.proofs.delivery.deliver.Goals.{in-0-1, in_default-1}
 
 pub pay-requires : goal.pay-requires
 pay-requires c =
@@ -39,10 +40,10 @@ returns-in-0 c =
     let h = c.args.h in
     let kind = c.args.m.kind in
     let other : (kind ≡ 1 → ⊥) × (kind ≡ 2 → ⊥) =
-    ⊎_elim
-    (λ w. let zero : kind ≡ 0 = w.keys3 in ((λ (e : kind ≡ 1). omega arith), (λ (e : kind ≡ 2). omega arith)))
-    (λ w. (w.rest.0.0.1, w.rest.0.1))
-    c.in-0-1.branch
+    elim c.in-0-1.branch [
+      | in-0-1 w ↦ ((λ (e : kind ≡ 1). omega arith), (λ (e : kind ≡ 2). omega arith))
+      | in_default-1 w ↦ ((λ (e : kind ≡ 1). omega arith), (λ (e : kind ≡ 2). omega arith))
+    ]
     in
     c.settle.ensures ∙ sym (deliver_other h kind other.0 other.1)
     ∙ sym (done_at_lem h (deliver_number h c.args.own c.args.m) _ c.deliver_number-n.ensures c.if-n-eq0.true)

@@ -25,7 +25,7 @@ loop-i-preserved c =
     let args = c.args in
     let inv = c.loop-i.invariant.1 in
     let called = c.put_entry.ensures in
-    let xs = args.t3 in
+    let xs = args.places in
     let long : length xs ≡ 256 = search rules in (
       omega arith,
       wrote_more entry_bytes entry_width args.out.now args.at xs c.loop-i.i zero_entry (omega arith) inv
@@ -35,5 +35,5 @@ loop-i-preserved c =
 pub returns : goal.returns
 returns c =
     let args = c.args in
-    let end = wrote_all entry_bytes entry_width args.out.now args.at args.t3 args.count (omega arith) c.loop-i.invariant.1 in
+    let end = wrote_all entry_bytes entry_width args.out.now args.at args.places args.count (omega arith) c.loop-i.invariant.1 in
     end.1 ∙ sym (first-put _ _ _ _ _ _ _ (omega arith) (omega arith))
