@@ -18,45 +18,46 @@ use Rattle.table_records.specs.Records.{collected}
 use Rattle.claims.specs.Claims.{log_entries, entry_claim, bounded}
 use Rattle.claims.proofs.Summed.{few_purses, logs_fit, few_entries, entries_bounded, logs_legal, claims_once}
 use Rattle.claims.proofs.claims.Goals as goal
+use Rattle.claims.proofs.claims.Goals.{After-logs-on_cards, After-sum-rest, Then-held_ok}
 
 -- the table obeys the rules
-obeys : (c : tie.Then1) → held_ok c.before.before.args.held ≡ true
-obeys c = sym c.before.held-ok.ensures ∙ c.if1.true
+obeys : (c : Then-held_ok) → held_ok c.args.held ≡ true
+obeys c = sym c.held_ok.ensures ∙ c.if-held_ok.true
 
 -- the logs as the code has them
-cards : (c : tie.After-logs) → collected c.logs.result ≡ log_entries c.before.before.before.before.before.before.before.args.held.desk.purses c.before.before.before.before.before.before.before.args.held.table
+cards : (c : After-logs-on_cards) → collected c.logs-on_cards.result ≡ log_entries c.args.held.desk.purses c.args.held.table
 cards c =
-    let h = c.before.before.before.before.before.before.before.args.held in
-    ap collected c.logs.ensures ∙ taken_back 256 zero_entry (log_entries h.desk.purses h.table)
+    let h = c.args.held in
+    ap collected c.logs-on_cards.ensures ∙ taken_back 256 zero_entry (log_entries h.desk.purses h.table)
 
 -- the two passes are the figure
-both : (c : tie.After-sum2) → c.before.sum.result + c.sum2.result ≡ claims (seen c.before.before.before.before.before.before.before.before.before.args.held)
+both : (c : After-sum-rest) → c.sum-cards.result + c.sum-rest.result ≡ claims (seen c.args.held)
 both c =
     let chosen = c.before.before.before.before.before.before.before in
     let h = chosen.before.before.args.held in
-    let first : c.before.sum.result ≡ total (entry_claim h.table h.desk.archive) (log_entries h.desk.purses h.table) = c.before.sum.ensures ∙ ap (total (entry_claim h.table h.desk.archive)) (cards c.before.before) in
-    omega (arith, first, c.sum2.ensures, claims_once h (obeys chosen))
+    let first : c.sum-cards.result ≡ total (entry_claim h.table h.desk.archive) (log_entries h.desk.purses h.table) = c.sum-cards.ensures ∙ ap (total (entry_claim h.table h.desk.archive)) (cards c.before.before) in
+    omega (arith, first, c.sum-rest.ensures, claims_once h (obeys chosen))
 
 pub logs-on_cards-requires : goal.logs-on_cards-requires
 logs-on_cards-requires c =
     let h = c.args.held in
-    (few_purses h (obeys chosen), logs_fit h (obeys chosen))
+    (few_purses h (obeys (goal.at.logs-on_cards-requires c).Then-held_ok), logs_fit h (obeys (goal.at.logs-on_cards-requires c).Then-held_ok))
 
 pub sum-cards-requires : goal.sum-cards-requires
 sum-cards-requires c =
     let h = c.args.held in
-    let legal = logs_legal h (obeys chosen) in
-    (c.keys_of-keys.ensures, few_entries h (obeys chosen), omega (arith, ap (λ (x : Archive). x.count) c.logs-on_cards.ensures, legal.1), ap (all bounded) (cards c) ∙ legal.0)
+    let legal = logs_legal h (obeys (goal.at.sum-cards-requires c).Then-held_ok) in
+    (c.keys_of-keys.ensures, few_entries h (obeys (goal.at.sum-cards-requires c).Then-held_ok), omega (arith, ap (λ (x : Archive). x.count) c.logs-on_cards.ensures, legal.1), ap (all bounded) (cards c) ∙ legal.0)
 
 pub sum-rest-requires : goal.sum-rest-requires
 sum-rest-requires c =
     let h = c.args.held in
-    (c.keys_of-keys.ensures, few_entries h (obeys chosen), few_entries h (obeys chosen), entries_bounded h (obeys chosen))
+    (c.keys_of-keys.ensures, few_entries h (obeys (goal.at.sum-rest-requires c).Then-held_ok), few_entries h (obeys (goal.at.sum-rest-requires c).Then-held_ok), entries_bounded h (obeys (goal.at.sum-rest-requires c).Then-held_ok))
 
 pub overflow_add-result : goal.overflow_add-result
 overflow_add-result c =
     let h = c.args.held in
-    let fits : c.sum-cards.result + c.sum-rest.result ≤ 1280000000 = omega (arith, both c, claims_most (seen h) (seen_ok h (obeys chosen))) in
+    let fits : c.sum-cards.result + c.sum-rest.result ≤ 1280000000 = omega (arith, both c, claims_most (seen h) (seen_ok h (obeys (goal.at.overflow_add-result c).Then-held_ok))) in
     search rules
 
 pub returns-then-held_ok : goal.returns-then-held_ok

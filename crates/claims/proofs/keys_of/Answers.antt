@@ -9,8 +9,9 @@ use Rattle.table_records.specs.Records.{entry_key}
 use Rattle.table_records.proofs.Same.{entry_key_lem}
 use Rattle.table_records.proofs.Asked.{key_more, keys_all}
 use Rattle.claims.proofs.keys_of.Goals as goal
+use Rattle.claims.proofs.keys_of.Goals.{Start}
 
-long : (start : tie.Start invariant-loop decreases-loop) → length start.args.a.places ≡ 256
+long : (start : Start) → length start.args.a.places ≡ 256
 long start = start.well_formed.0.1.1.0.1.0.1
 
 pub loop-i-init : goal.loop-i-init
@@ -20,7 +21,7 @@ pub loop-i-preserved : goal.loop-i-preserved
 loop-i-preserved c =
     (
       omega arith,
-      key_more same_entry entry_key entry_key_lem c.args.a.places c.loop-i.keys c.loop-i.i c.key.result zero_entry (long start) (omega (arith, c.loop-i-test.true)) c.loop-i.invariant.1 c.key.ensures,
+      key_more same_entry entry_key entry_key_lem c.args.a.places c.loop-i.keys c.loop-i.i c.key.result zero_entry (long (goal.at.loop-i-preserved c).At-loop-i) (omega (arith, c.loop-i-test.true)) c.loop-i.invariant.1 c.key.ensures,
     )
 
 pub returns : goal.returns
@@ -28,4 +29,4 @@ returns c =
     let l = c.args.a.places in
     let i = c.loop-i.i in
     let full : i ≡ 256 = omega arith in
-    keys_all same_entry entry_key entry_key_lem l c.loop-i.keys (long start) (rw full at c.loop-i.invariant.1)
+    keys_all same_entry entry_key entry_key_lem l c.loop-i.keys (long (goal.at.returns c).Start) (rw full at c.loop-i.invariant.1)

@@ -21,12 +21,13 @@ use Rattle.desk.specs.Desk.{zero_entry}
 use Rattle.claims.specs.Claims.{entry_by, log_entries, held_as, log_fits}
 use Rattle.claims.proofs.Gathered.{row, row_more, row_whole}
 use Rattle.claims.proofs.logs.Goals as goal
+use Rattle.claims.proofs.logs.Goals.{After-d-1, In-loop-own, Start}
 
 -- the entries so far lie in the first places, n of them
 abbrev Lie : List Entry → List Entry → ℕ → Type 0
 Lie es places n = (places ≡ padded 256 zero_entry es) × (n ≡ length es)
 
-long-table : (start : tie.Start invariant-loop2 decreases-loop2 invariant-loop decreases-loop) → length start.args.table ≡ 32
+long-table : (start : Start) → length start.args.table ≡ 32
 long-table start = start.well_formed.0.1.0.1
 
 -- what an array has past its end
@@ -39,15 +40,15 @@ record Fits (table : List Purse) (own : ℕ) : Type 0 where
   eight : length (get_or table own none).log ≡ 8
   few : (get_or table own none).logged ≤ 8
 
-fits-at : (c : tie.In-loop invariant-loop2 decreases-loop2 invariant-loop decreases-loop) → Fits c.before.before.before.args.table c.before.loop.own
+fits-at : (c : In-loop-own) → Fits c.args.table c.loop-own.own
 fits-at c =
     let start = c.before.before.before in
-    let own = c.before.loop.own in
+    let own = c.loop-own.own in
     let l = start.args.table in
-    let less : own < length l = omega (arith, long-table start, start.requires.0, c.loop-test.true) in
+    let less : own < length l = omega (arith, long-table start, start.requires.0, c.loop-own-test.true) in
     let p : Purse = get_or l own none in
     let ok : log_fits p ≡ true =
-    ap log_fits (at_any l own none zero_purse less) ∙ every_at (λ (p : ℕ). log_fits (get_or l p zero_purse)) start.args.purses own start.requires.1 (omega (arith, c.loop-test.true)) in
+    ap log_fits (at_any l own none zero_purse less) ∙ every_at (λ (p : ℕ). log_fits (get_or l p zero_purse)) start.args.purses own start.requires.1 (omega (arith, c.loop-own-test.true)) in
     record {
       inside = less;
       eight = eqb-true _ _ (and_l (eqb (length p.log) 8) (leb p.logged 8) ok);
@@ -55,12 +56,12 @@ fits-at c =
     }
 
 -- there is a place behind those that stand
-room : (c : tie.After-d invariant-loop2 decreases-loop2 invariant-loop decreases-loop) → c.before.before.loop2.n < 256
+room : (c : After-d-1) → c.loop-i.n < 256
 room c =
     let at-loop2 = c.before.before in
     let in-loop = at-loop2.before.before in
     let start = in-loop.before.before.before in
-    omega (arith, at-loop2.loop2.invariant.0, at-loop2.loop2.invariant.2, c.before.loop2-test.true, in-loop.loop-test.true, start.requires.0)
+    omega (arith, at-loop2.loop2.invariant.0, at-loop2.loop2.invariant.2, c.loop-i-test.true, in-loop.loop-test.true, start.requires.0)
 
 pub loop-own-init : goal.loop-own-init
 loop-own-init c = (omega arith, omega arith, (ap (λ (e : Entry). replicate 256 e) c.zero-unused.ensures, refl))
@@ -92,7 +93,7 @@ loop-i-preserved c =
     let lie = c.loop-i.invariant.3 in
     let es : List Entry = row own l log i in
     let e : Entry = entry_by own (get_or log i zero_details) in
-    let more : row own l log (i + 1) ≡ es ++ (e ∷ []) = row_more own l log i (omega (arith, (fits-at in-loop).eight, c.loop-i.invariant.0, c.loop-i-test.true)) in (
+    let more : row own l log (i + 1) ≡ es ++ (e ∷ []) = row_more own l log i (omega (arith, (fits-at (goal.at.loop-i-preserved c).In-loop-own).eight, c.loop-i.invariant.0, c.loop-i-test.true)) in (
       c.loop-i.invariant.0,
       omega (arith, c.loop-i-test.true),
       omega (arith, c.loop-i.invariant.2),
@@ -107,7 +108,7 @@ loop-own-preserved c =
     let l = c.args.table in
     let own = c.loop-own.own in
     let lie = c.loop-i.invariant.3 in
-    let fits = fits-at in-loop in
+    let fits = fits-at (goal.at.loop-own-preserved c).In-loop-own in
     let done : c.loop-i.i ≡ (get_or l own none).logged = omega (arith, c.loop-i.invariant.1, c.loop-i-test.false) in
     let whole : row own l (get_or l own none).log c.loop-i.i ≡ log_entries (own + 1) l = row_whole own l none c.loop-i.i fits.inside done in
     (omega (arith, c.loop-own-test.true), omega (arith, c.loop-i.invariant.2, fits.few, done), (lie.0 ∙ ap (padded 256 zero_entry) whole, lie.1 ∙ ap length whole))

@@ -23,22 +23,23 @@ use Rattle.table_records.proofs.Lookups.{looked_up}
 use Rattle.claims.specs.Claims.{payee_logged, claim_beside, entry_claim, bounded}
 use Rattle.claims.proofs.Partners.{partner, partner_found, claim_most, bounded_at}
 use Rattle.claims.proofs.sum.Goals as goal
+use Rattle.claims.proofs.sum.Goals.{After-loop-j, At-loop-i, In-loop-j, Start}
 
-long : (start : tie.Start invariant-loop2 decreases-loop2 invariant-loop3 decreases-loop3 invariant-loop decreases-loop) → length start.args.a.places ≡ 256
+long : (start : Start) → length start.args.a.places ≡ 256
 long start = start.well_formed.1.0.1.1.0.1.0.1
 
-long-entries : (start : tie.Start invariant-loop2 decreases-loop2 invariant-loop3 decreases-loop3 invariant-loop decreases-loop) → length start.args.es.places ≡ 256
+long-entries : (start : Start) → length start.args.es.places ≡ 256
 long-entries start = start.well_formed.1.1.1.0.1.1.0.1.0.1
 
-looking : (c : tie.In-loop3 invariant-loop2 decreases-loop2 invariant-loop3 decreases-loop3 invariant-loop decreases-loop) → c.before.loop3.j < c.before.before.if2.end
-looking c = ltb-true _ _ (and_l _ _ c.loop3-test.true)
+looking : (c : In-loop-j) → c.loop-j.j < c.if-hit.end
+looking c = ltb-true _ _ (and_l _ _ c.loop-j-test.true)
 
 -- what the entry adds
-module _ (c : tie.After-loop3 invariant-loop2 decreases-loop2 invariant-loop3 decreases-loop3 invariant-loop decreases-loop) where
-  abbrev at-loop : tie.At-loop invariant-loop2 decreases-loop2 invariant-loop3 decreases-loop3 invariant-loop decreases-loop
+module _ (c : After-loop-j) where
+  abbrev at-loop : At-loop-i
   at-loop = c.before.before.before.before.before.before.before.before.before.before.before.before.before.before.before.before
 
-  abbrev start : tie.Start invariant-loop2 decreases-loop2 invariant-loop3 decreases-loop3 invariant-loop decreases-loop
+  abbrev start : Start
   start = at-loop.before
 
   abbrev e : Entry
@@ -121,7 +122,7 @@ loop-j-preserved c =
     let j = c.loop-j.j in
     let x : Entry = partner (get_or c.args.es.places c.loop-i.i zero_entry) in
     let less = looking c.before.before in
-    let inside : j < length l = omega (arith, less, c.loop-j.invariant.0, long start) in (
+    let inside : j < length l = omega (arith, less, c.loop-j.invariant.0, long (goal.at.loop-j-preserved c).At-loop-i) in (
       c.loop-j.invariant.0,
       omega (arith, less),
       rw (c.loop-j.invariant.2, c.same-logged.ensures)
@@ -130,24 +131,24 @@ loop-j-preserved c =
 
 pub overflow_add-sum : goal.overflow_add-sum
 overflow_add-sum c =
-    let most : (e turn).details.amount.0 ≤ 5000000 = leb-true _ _ (legal turn) in
-    let so_far : (at-loop turn).loop.sum ≤ 1280000000 = omega (arith, (at-loop turn).loop.invariant.2, (at-loop turn).loop.invariant.0, (start turn).requires.2) in
+    let most : (e (goal.at.overflow_add-sum c).After-loop-j).details.amount.0 ≤ 5000000 = leb-true _ _ (legal (goal.at.overflow_add-sum c).After-loop-j) in
+    let so_far : (at-loop (goal.at.overflow_add-sum c).After-loop-j).loop.sum ≤ 1280000000 = omega (arith, (at-loop (goal.at.overflow_add-sum c).After-loop-j).loop.invariant.2, (at-loop (goal.at.overflow_add-sum c).After-loop-j).loop.invariant.0, (start (goal.at.overflow_add-sum c).After-loop-j).requires.2) in
     search rules
 
 pub loop-i-preserved : goal.loop-i-preserved
 loop-i-preserved c =
-    let before = (at-loop turn).loop in
-    let w : Entry → ℕ = entry_claim (start turn).args.table (start turn).args.a in
-    let l = (start turn).args.es.places in
+    let before = (at-loop (goal.at.loop-i-preserved c).After-loop-j).loop in
+    let w : Entry → ℕ = entry_claim (start (goal.at.loop-i-preserved c).After-loop-j).args.table (start (goal.at.loop-i-preserved c).After-loop-j).args.a in
+    let l = (start (goal.at.loop-i-preserved c).After-loop-j).args.es.places in
     let i = before.i in
-    let less : i < (start turn).args.es.count = omega (arith, c.loop-i-test.true) in
-    let added : c.if-payer-logged.sum ≡ before.sum + w (e turn) =
+    let less : i < (start (goal.at.loop-i-preserved c).After-loop-j).args.es.count = omega (arith, c.loop-i-test.true) in
+    let added : c.if-payer-logged.sum ≡ before.sum + w (e (goal.at.loop-i-preserved c).After-loop-j) =
     ⊎_elim
-    (λ v. v.2 ∙ ap (λ (n : ℕ). before.sum + n) (ap (λ (t : Bool). cond t (e turn).details.amount.0 0) (sym v.0.taken) ∙ adds turn))
-    (λ v. v.1 ∙ omega (arith, adds turn, ap (λ (t : Bool). cond t (e turn).details.amount.0 0) v.0.left))
+    (λ v. v.2 ∙ ap (λ (n : ℕ). before.sum + n) (ap (λ (t : Bool). cond t (e (goal.at.loop-i-preserved c).After-loop-j).details.amount.0 0) (sym v.0.taken) ∙ adds (goal.at.loop-i-preserved c).After-loop-j))
+    (λ v. v.1 ∙ omega (arith, adds (goal.at.loop-i-preserved c).After-loop-j, ap (λ (t : Bool). cond t (e (goal.at.loop-i-preserved c).After-loop-j).details.amount.0 0) v.0.left))
     c.if-payer-logged.branch in
-    let next : total w (take (i + 1) l) ≡ total w (take i l) + w (e turn) = total-next w l i zero_entry (omega (arith, less, (start turn).requires.2, long-entries (start turn))) in
-    (omega (arith, less), omega (arith, added, next, before.inv.1), omega (arith, added, before.inv.2, claim_most (record_of (start turn).args.table (e turn).details.payee) (start turn).args.a (e turn) (legal turn)))
+    let next : total w (take (i + 1) l) ≡ total w (take i l) + w (e (goal.at.loop-i-preserved c).After-loop-j) = total-next w l i zero_entry (omega (arith, less, (start (goal.at.loop-i-preserved c).After-loop-j).requires.2, long-entries (start (goal.at.loop-i-preserved c).After-loop-j))) in
+    (omega (arith, less), omega (arith, added, next, before.inv.1), omega (arith, added, before.inv.2, claim_most (record_of (start (goal.at.loop-i-preserved c).After-loop-j).args.table (e (goal.at.loop-i-preserved c).After-loop-j).details.payee) (start (goal.at.loop-i-preserved c).After-loop-j).args.a (e (goal.at.loop-i-preserved c).After-loop-j) (legal (goal.at.loop-i-preserved c).After-loop-j)))
 
 pub returns : goal.returns
 returns c =

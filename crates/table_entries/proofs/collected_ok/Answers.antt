@@ -18,11 +18,12 @@ use Rattle.table_records.proofs.Same.{turn_entry, entry_key_lem}
 use Rattle.table_records.proofs.Asked.{too_many, one_bad, one_before, none_bad, one_more_lem, no_key, key_more}
 use Rattle.table_records.proofs.Lookups.{entry_at}
 use Rattle.table_entries.proofs.collected_ok.Goals as goal
+use Rattle.table_entries.proofs.collected_ok.Goals.{After-loop-j, Start}
 
-long-table : (start : tie.Start invariant-loop2 decreases-loop2 invariant-loop3 decreases-loop3 invariant-loop decreases-loop) → length start.args.table ≡ 32
+long-table : (start : Start) → length start.args.table ≡ 32
 long-table start = start.well_formed.0.1.0.1
 
-long : (start : tie.Start invariant-loop2 decreases-loop2 invariant-loop3 decreases-loop3 invariant-loop decreases-loop) → length start.args.archive.places ≡ 256
+long : (start : Start) → length start.args.archive.places ≡ 256
 long start = start.well_formed.1.0.1.1.0.1.0.1
 
 element-copy-out-e :
@@ -38,12 +39,12 @@ element-copy-out-o :
 element-copy-out-o c = omega (arith, c.before.loop3.invariant.0, c.before.loop3.invariant.1, c.loop3-test.true)
 
 -- what the search found
-searched : (c : tie.After-loop3 invariant-loop2 decreases-loop2 invariant-loop3 decreases-loop3 invariant-loop decreases-loop) → c.before.loop3.again ≡ among same_entry (get_or c.before.before.before.before.before.before.before.before.before.before.before.before.before.before.args.archive.places c.before.before.before.before.before.before.before.before.before.before.before.before.loop.i zero_entry) (take c.before.before.before.before.before.before.before.before.before.before.before.before.loop.i c.before.before.before.before.before.before.before.before.before.before.before.before.before.before.args.archive.places)
+searched : (c : After-loop-j) → c.loop-j.again ≡ among same_entry (get_or c.args.archive.places c.loop-i.i zero_entry) (take c.loop-i.i c.args.archive.places)
 searched c =
     let at-loop3 = c.before in
-    let l = c.before.before.before.before.before.before.before.before.before.before.before.before.before.before.args.archive.places in
-    let i = c.before.before.before.before.before.before.before.before.before.before.before.before.loop.i in
-    let full : at-loop3.loop3.j ≡ at-loop3.before.if3.end = omega (arith, at-loop3.loop3.invariant.2, c.loop3-test.false) in
+    let l = c.args.archive.places in
+    let i = c.loop-i.i in
+    let full : at-loop3.loop3.j ≡ at-loop3.before.if3.end = omega (arith, at-loop3.loop3.invariant.2, c.loop-j-test.false) in
     at-loop3.loop3.invariant.3 ∙ ap (λ (n : ℕ). among same_entry (get_or l i zero_entry) (take n l)) full ∙ at-loop3.loop3.invariant.4
 
 pub returns-then-count-gt256 : goal.returns-then-count-gt256
@@ -62,8 +63,8 @@ returns-then-not-entry_beside c =
     let i = c.loop-i.i in
     let fits : n ≤ 256 = c.loop-i.invariant.0 in
     let less : i < n = omega arith in
-    one_bad (entry_in c.args.purses t) same_entry l n zero_entry (long start) fits i less
-    (entry_at c.args.purses t (get_or l i zero_entry) c.place-a.result _ (long-table start) c.place-a.ensures c.entry_beside.ensures)
+    one_bad (entry_in c.args.purses t) same_entry l n zero_entry (long (goal.at.returns-then-not-entry_beside c).Else-count-gt256) fits i less
+    (entry_at c.args.purses t (get_or l i zero_entry) c.place-a.result _ (long-table (goal.at.returns-then-not-entry_beside c).Else-count-gt256) c.place-a.ensures c.entry_beside.ensures)
     (not-true _ c.if-not-entry_beside.true)
 
 pub loop-s-init : goal.loop-s-init
@@ -104,7 +105,7 @@ loop-j-preserved c =
     let i = c.loop-i.i in
     let j = c.loop-j.j in
     let below : j < c.if-hit.end = c.loop-j-test.true in
-    let inside : j < length l = omega (arith, below, c.loop-j.invariant.0, c.loop-j.invariant.1, long start) in (
+    let inside : j < length l = omega (arith, below, c.loop-j.invariant.0, c.loop-j.invariant.1, long (goal.at.loop-j-preserved c).At-loop-i) in (
       c.loop-j.invariant.0,
       c.loop-j.invariant.1,
       omega (arith, below),
@@ -117,7 +118,7 @@ unfolding collected_ok
 returns-then-again c =
     let n = c.args.archive.count in
     let less : c.loop-i.i < n = omega (arith, c.loop-i-test.true) in
-    one_before (entry_in c.args.purses c.args.table) same_entry c.args.archive.places n zero_entry (long start) c.loop-i.invariant.0 turn_entry c.loop-i.i less (searched c.before) c.if-again.true
+    one_before (entry_in c.args.purses c.args.table) same_entry c.args.archive.places n zero_entry (long (goal.at.returns-then-again c).At-loop-i) c.loop-i.invariant.0 turn_entry c.loop-i.i less (searched c.before) c.if-again.true
 
 pub loop-i-preserved : goal.loop-i-preserved
 loop-i-preserved c =
@@ -128,14 +129,14 @@ loop-i-preserved c =
     let keys = c.loop-i.keys in
     let less : i < n = omega (arith, c.loop-i-test.true) in
     let fits : n ≤ 256 = c.loop-i.invariant.0 in
-    let inside : i < length l = omega (arith, less, fits, long start) in (
+    let inside : i < length l = omega (arith, less, fits, long (goal.at.loop-i-preserved c).At-loop-i) in (
       fits,
       omega (arith, less),
-      one_more_lem (entry_in c.args.purses t) same_entry l n zero_entry (long start) fits i less c.loop-i.invariant.2
-          (entry_at c.args.purses t (get_or l i zero_entry) c.place-a.result _ (long-table start) c.place-a.ensures c.entry_beside.ensures)
+      one_more_lem (entry_in c.args.purses t) same_entry l n zero_entry (long (goal.at.loop-i-preserved c).At-loop-i) fits i less c.loop-i.invariant.2
+          (entry_at c.args.purses t (get_or l i zero_entry) c.place-a.result _ (long-table (goal.at.loop-i-preserved c).At-loop-i) c.place-a.ensures c.entry_beside.ensures)
           (not-false _ c.if-not-entry_beside.false),
       apart_more same_entry turn_entry l i i zero_entry inside c.loop-i.invariant.3 (sym (searched c.before) ∙ c.if-again.false) refl,
-      key_more same_entry entry_key entry_key_lem l keys i c.key-k.result zero_entry (long start) (omega (arith, less, fits)) c.loop-i.invariant.4 c.key-k.ensures,
+      key_more same_entry entry_key entry_key_lem l keys i c.key-k.result zero_entry (long (goal.at.loop-i-preserved c).At-loop-i) (omega (arith, less, fits)) c.loop-i.invariant.4 c.key-k.ensures,
     )
 
 pub returns : goal.returns
@@ -144,4 +145,4 @@ returns c =
     let l = c.args.archive.places in
     let n = c.args.archive.count in
     let fits : n ≤ 256 = c.loop-i.invariant.0 in
-    none_bad (entry_in c.args.purses c.args.table) same_entry l n zero_entry (long start) fits c.loop-i.i (omega arith) c.loop-i.invariant.2 c.loop-i.invariant.3
+    none_bad (entry_in c.args.purses c.args.table) same_entry l n zero_entry (long (goal.at.returns c).Start) fits c.loop-i.i (omega arith) c.loop-i.invariant.2 c.loop-i.invariant.3

@@ -9,8 +9,9 @@ use Rattle.purse.specs.Details.{zero_message, same_message}
 use Rattle.purse.proofs.Walks.{rest_more, rest_end}
 use Rattle.rules.specs.Laid.{is_zero_message}
 use Rattle.table_messages.proofs.places_ok.Goals as goal
+use Rattle.table_messages.proofs.places_ok.Goals.{Start}
 
-long : (start : tie.Start invariant-loop decreases-loop) → length start.args.ether.places ≡ 256
+long : (start : Start) → length start.args.ether.places ≡ 256
 long start = start.well_formed.0.1.1.0.1.0.1
 
 pub loop-i-init : goal.loop-i-init
@@ -18,9 +19,9 @@ loop-i-init c = refl
 
 pub loop-i-preserved : goal.loop-i-preserved
 unfolding is_zero_message same_message
-loop-i-preserved c = rest_more is_zero_message c.args.ether.places c.loop-i.i zero_message c.loop-i.ok (omega (arith, long start)) c.loop-i.invariant (rw c.is_unused.ensures)
+loop-i-preserved c = rest_more is_zero_message c.args.ether.places c.loop-i.i zero_message c.loop-i.ok (omega (arith, long (goal.at.loop-i-preserved c).At-loop-i)) c.loop-i.invariant (rw c.is_unused.ensures)
 
 pub returns : goal.returns
 returns c =
     let l = c.args.ether.places in
-    rw (eq-eqb (length l) 256 (long start), rest_end is_zero_message l c.loop-i.i c.loop-i.ok (omega (arith, long start)) c.loop-i.invariant)
+    rw (eq-eqb (length l) 256 (long (goal.at.returns c).Start), rest_end is_zero_message l c.loop-i.i c.loop-i.ok (omega (arith, long (goal.at.returns c).Start)) c.loop-i.invariant)

@@ -22,7 +22,7 @@ slice_bounds-read-end-then-answer-eq0 c =
 pub returns-then-answer-eq0 : goal.returns-then-answer-eq0
 returns-then-answer-eq0 c =
     let args = start.args in
-    let lent : length args.other.table ≡ 32 = c.well_formed.1.0.1.1.0.1.0.1 in
+    let lent : length args.other.table ≡ 32 = simp length-map at start.well-formed.1.0.1.1.0.1.0.1 in
     let wrote = c.before.before.before.before.before.write.ensures in
     (back args.other args.held args.out.now lent c.before.before.before.before.before.before.before.held-fits.ensures wrote.0 wrote.1 c.before.before.if1.true c.read.ensures, wrote.1)
 

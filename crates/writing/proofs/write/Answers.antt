@@ -6,13 +6,14 @@ use Rattle.layout.proofs.Stands.{held-length}
 use Rattle.writing.proofs.Calls.{write_number_lem, writes, wrote, wrote_nothing}
 use borrow.Author.Rules.{rules}
 use Rattle.writing.proofs.write.Goals as goal
+use Rattle.writing.proofs.write.Goals.{After-tested-n-2}
 
 -- the number found is the definition's
-number : (c : tie.After-tested2) → c.tested2.result ≡ write_number c.before.before.before.before.before.args.held c.before.before.before.before.before.args.out.now
+number : (c : After-tested-n-2) → c.tested-n-2.result ≡ write_number c.args.held c.args.out.now
 number c =
-    c.tested2.ensures
-    ∙ rw (c.before.tested.ensures, c.before.before.held-ok.ensures, c.before.before.before.image-length.ensures)
-    (write_number_lem c.before.before.before.before.before.args.held c.before.before.before.before.before.args.out.now)
+    c.tested-n-2.ensures
+    ∙ rw (c.tested-n.ensures, c.held_ok.ensures, c.image_length-length.ensures)
+    (write_number_lem c.args.held c.args.out.now)
 
 pub put_bench-requires : goal.put_bench-requires
 put_bench-requires c =

@@ -6,4 +6,4 @@ use Rattle.purse.proofs.Tests.{walks}
 use Rattle.asks.proofs.asking.deliver_number.Goals as goal
 
 pub returns : goal.returns
-returns c = let now = c.args in rw (c.tested-n-2.ensures, c.tested-n.ensures) (walks (deliver_tests now.purses now.messages now.own_val now.place) refl)
+returns c = let now = c.args in rw (c.tested-n-2.ensures, c.tested-n.ensures) (walks (deliver_tests now.purses now.messages now.own now.place) refl)

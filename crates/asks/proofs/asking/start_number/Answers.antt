@@ -6,4 +6,4 @@ use Rattle.purse.proofs.Tests.{walks}
 use Rattle.asks.proofs.asking.start_number.Goals as goal
 
 pub returns : goal.returns
-returns c = let now = c.args in rw (c.tested-n-2.ensures, c.tested-n.ensures) (walks (start_tests now.purses now.own_val now.other) refl)
+returns c = let now = c.args in rw (c.tested-n-2.ensures, c.tested-n.ensures) (walks (start_tests now.purses now.own now.other) refl)

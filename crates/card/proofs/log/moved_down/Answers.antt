@@ -6,12 +6,13 @@ use Rattle.purse.proofs.Lists.{unmapped}
 use Rattle.purse.proofs.Log.{moved}
 use borrow.Author.Rules.{rules}
 use Rattle.card.proofs.log.moved_down.Goals as goal
+use Rattle.card.proofs.log.moved_down.Goals.{Start}
 
 -- the log has its eight places
-long : (c : tie.Start) → length c.args.l ≡ 8
+long : (c : Start) → length c.args.l ≡ 8
 long c = search (rules, unmapped)
 
 pub returns : goal.returns
 returns c =
     rw c.zero-z.ensures
-    (moved c.args.l zero_details (long c.before.before.before.before.before.before.before.before))
+    (moved c.args.l zero_details (long (goal.at.returns c).Start))

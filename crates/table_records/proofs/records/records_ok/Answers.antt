@@ -16,8 +16,9 @@ use Rattle.rules.specs.Laid.{is_zero_purse}
 use Rattle.table_records.specs.Records.{names_ok}
 use Rattle.table_records.proofs.Record.{used_at, records_parts}
 use Rattle.table_records.proofs.records.records_ok.Goals as goal
+use Rattle.table_records.proofs.records.records_ok.Goals.{Start}
 
-long : (start : tie.Start invariant-loop decreases-loop invariant-loop2 decreases-loop2) → length start.args.table ≡ 32
+long : (start : Start) → length start.args.table ≡ 32
 long start = start.well_formed.0.1.0.1
 
 pub loop-i-init : goal.loop-i-init
@@ -27,7 +28,7 @@ pub loop-i-preserved : goal.loop-i-preserved
 loop-i-preserved c =
     let t = c.args.table in
     let i = c.loop-i.i in
-    let inside : i < length t = omega (arith, long start) in (
+    let inside : i < length t = omega (arith, long (goal.at.loop-i-preserved c).Start) in (
       c.loop-i.invariant.0,
       omega arith,
       more_every (used_at c.args.purses t) i true c.loop-i.invariant.2
@@ -41,8 +42,8 @@ pub loop-i-2-preserved : goal.loop-i-2-preserved
 loop-i-2-preserved c =
     let t = c.args.table in
     let i = c.loop-i-2.i in
-    rest_more is_zero_purse t i zero_purse c.loop-i-2.ok (omega (arith, long start)) c.loop-i-2.invariant
-    (c.is_zero-ok.ensures ∙ ap is_zero_purse (at_any t i _ zero_purse (omega (arith, long start))))
+    rest_more is_zero_purse t i zero_purse c.loop-i-2.ok (omega (arith, long (goal.at.loop-i-2-preserved c).Start)) c.loop-i-2.invariant
+    (c.is_zero-ok.ensures ∙ ap is_zero_purse (at_any t i _ zero_purse (omega (arith, long (goal.at.loop-i-2-preserved c).Start))))
 
 pub returns : goal.returns
 returns c =
@@ -50,5 +51,5 @@ returns c =
     let many = c.at_most-many.result in
     let full : c.loop-i.i ≡ many = omega arith in
     let rest : c.loop-i-2.ok ≡ (c.loop-i.ok && all is_zero_purse (drop c.loop-i.i t)) =
-    rest_end is_zero_purse t c.loop-i-2.i c.loop-i-2.ok (omega (arith, long start)) c.loop-i-2.invariant in
-    rest ∙ rw (c.loop-i.invariant.2, full) (sym (records_parts c.args.purses t many (long start) (omega (arith, c.at_most-many.ensures))))
+    rest_end is_zero_purse t c.loop-i-2.i c.loop-i-2.ok (omega (arith, long (goal.at.returns c).Start)) c.loop-i-2.invariant in
+    rest ∙ rw (c.loop-i.invariant.2, full) (sym (records_parts c.args.purses t many (long (goal.at.returns c).Start) (omega (arith, c.at_most-many.ensures))))
