@@ -8,7 +8,6 @@ use mathlib.Core.Logic.{⊎_elim}
 use lib.ListN.{length, length-map, take, get_or}
 use lib.Dec.{eqb}
 use native.Mathlib.Omega.{arith}
-use borrow.Author.Tests.{not-true, not-false}
 use borrow.Author.Rules.{rules}
 use Rattle.purse.specs.Lists.{all, among}
 use Rattle.purse.proofs.Walks.{more_any, apart_more}
@@ -18,7 +17,7 @@ use Rattle.table_records.proofs.Same.{turn_entry, entry_key_lem}
 use Rattle.table_records.proofs.Asked.{too_many, one_bad, one_before, none_bad, one_more_lem, no_key, key_more}
 use Rattle.table_records.proofs.Lookups.{entry_at}
 use Rattle.table_entries.proofs.collected_ok.Goals as goal
-use Rattle.table_entries.proofs.collected_ok.Goals.{After-loop-j, Start}
+use Rattle.table_entries.proofs.collected_ok.Goals.{After-loop-j, Start, then-hit, else-hit}
 
 long-table : (start : Start) → length start.args.table ≡ 32
 long-table start = start.well_formed.0.1.0.1
@@ -26,26 +25,13 @@ long-table start = start.well_formed.0.1.0.1
 long : (start : Start) → length start.args.archive.places ≡ 256
 long start = start.well_formed.1.0.1.1.0.1.0.1
 
-element-copy-out-e :
-    tie.Need-element-copy-out-e invariant-loop2 decreases-loop2 invariant-loop3 decreases-loop3 invariant-loop decreases-loop
-element-copy-out-e c = search rules
-
-entry_beside_requires :
-    tie.Need-entry-beside-requires invariant-loop2 decreases-loop2 invariant-loop3 decreases-loop3 invariant-loop decreases-loop
-entry_beside_requires c κs = search rules
-
-element-copy-out-o :
-    tie.Need-element-copy-out-o invariant-loop2 decreases-loop2 invariant-loop3 decreases-loop3 invariant-loop decreases-loop
-element-copy-out-o c = omega (arith, c.before.loop3.invariant.0, c.before.loop3.invariant.1, c.loop3-test.true)
-
 -- what the search found
 searched : (c : After-loop-j) → c.loop-j.again ≡ among same_entry (get_or c.args.archive.places c.loop-i.i zero_entry) (take c.loop-i.i c.args.archive.places)
 searched c =
-    let at-loop3 = c.before in
     let l = c.args.archive.places in
     let i = c.loop-i.i in
-    let full : at-loop3.loop3.j ≡ at-loop3.before.if3.end = omega (arith, at-loop3.loop3.invariant.2, c.loop-j-test.false) in
-    at-loop3.loop3.invariant.3 ∙ ap (λ (n : ℕ). among same_entry (get_or l i zero_entry) (take n l)) full ∙ at-loop3.loop3.invariant.4
+    let full : c.loop-j.j ≡ c.if-hit.end = omega (arith, c.loop-j.invariant.2, c.loop-j-test.false) in
+    c.loop-j.invariant.3 ∙ ap (λ (n : ℕ). among same_entry (get_or l i zero_entry) (take n l)) full ∙ c.loop-j.invariant.4
 
 pub returns-then-count-gt256 : goal.returns-then-count-gt256
 unfolding collected_ok
@@ -63,9 +49,9 @@ returns-then-not-entry_beside c =
     let i = c.loop-i.i in
     let fits : n ≤ 256 = c.loop-i.invariant.0 in
     let less : i < n = omega arith in
-    one_bad (entry_in c.args.purses t) same_entry l n zero_entry (long (goal.at.returns-then-not-entry_beside c).Else-count-gt256) fits i less
-    (entry_at c.args.purses t (get_or l i zero_entry) c.place-a.result _ (long-table (goal.at.returns-then-not-entry_beside c).Else-count-gt256) c.place-a.ensures c.entry_beside.ensures)
-    (not-true _ c.if-not-entry_beside.true)
+    one_bad (entry_in c.args.purses t) same_entry l n zero_entry (long (goal.at.returns-then-not-entry_beside c).Start) fits i less
+    (entry_at c.args.purses t (get_or l i zero_entry) c.place-a.result _ (long-table (goal.at.returns-then-not-entry_beside c).Start) c.place-a.ensures c.entry_beside.ensures)
+    c.if-not-entry_beside.true
 
 pub loop-s-init : goal.loop-s-init
 loop-s-init c = (omega arith, refl)
@@ -93,10 +79,11 @@ loop-j-init c =
     let x = get_or l i zero_entry in
     let full : c.loop-s.s ≡ i = omega (arith, c.loop-s.invariant.0, c.loop-s-test.false) in
     let settled : (c.if-hit.end ≤ i) × (among same_entry x (take c.if-hit.end l) ≡ among same_entry x (take i l)) =
-    ⊎_elim
-    (λ w. (omega (arith, w.1), ap (λ (n : ℕ). among same_entry x (take n l)) w.1))
-    (λ w. (omega (arith, w.1), ap (λ (n : ℕ). among same_entry x (take n l)) w.1 ∙ sym (no_key same_entry entry_key entry_key_lem x l c.loop-i.keys i c.loop-s.s c.key-k.result c.loop-i.invariant.4 c.key-k.ensures full c.loop-s.invariant.1 w.0.left)))
-    c.if-hit.branch in
+    elim c.if-hit.branch [
+      | then-hit w ↦ (omega (arith, w.end-is), ap (λ (n : ℕ). among same_entry x (take n l)) w.end-is)
+      | else-hit w ↦ (omega (arith, w.end-is), ap (λ (n : ℕ). among same_entry x (take n l)) w.end-is ∙ sym (no_key same_entry entry_key entry_key_lem x l c.loop-i.keys i c.loop-s.s c.key-k.result c.loop-i.invariant.4 c.key-k.ensures full c.loop-s.invariant.1 w.if-hit.false))
+    ]
+    in
     (omega (arith, c.loop-i-test.true, c.loop-i.invariant.0), settled.0, omega arith, refl, settled.1)
 
 pub loop-j-preserved : goal.loop-j-preserved
@@ -105,7 +92,7 @@ loop-j-preserved c =
     let i = c.loop-i.i in
     let j = c.loop-j.j in
     let below : j < c.if-hit.end = c.loop-j-test.true in
-    let inside : j < length l = omega (arith, below, c.loop-j.invariant.0, c.loop-j.invariant.1, long (goal.at.loop-j-preserved c).At-loop-i) in (
+    let inside : j < length l = omega (arith, below, c.loop-j.invariant.0, c.loop-j.invariant.1, long (goal.at.loop-j-preserved c).Start) in (
       c.loop-j.invariant.0,
       c.loop-j.invariant.1,
       omega (arith, below),
@@ -118,7 +105,7 @@ unfolding collected_ok
 returns-then-again c =
     let n = c.args.archive.count in
     let less : c.loop-i.i < n = omega (arith, c.loop-i-test.true) in
-    one_before (entry_in c.args.purses c.args.table) same_entry c.args.archive.places n zero_entry (long (goal.at.returns-then-again c).At-loop-i) c.loop-i.invariant.0 turn_entry c.loop-i.i less (searched c.before) c.if-again.true
+    one_before (entry_in c.args.purses c.args.table) same_entry c.args.archive.places n zero_entry (long (goal.at.returns-then-again c).Start) c.loop-i.invariant.0 turn_entry c.loop-i.i less (searched (goal.at.returns-then-again c).After-loop-j) c.if-again.true
 
 pub loop-i-preserved : goal.loop-i-preserved
 loop-i-preserved c =
@@ -129,14 +116,14 @@ loop-i-preserved c =
     let keys = c.loop-i.keys in
     let less : i < n = omega (arith, c.loop-i-test.true) in
     let fits : n ≤ 256 = c.loop-i.invariant.0 in
-    let inside : i < length l = omega (arith, less, fits, long (goal.at.loop-i-preserved c).At-loop-i) in (
+    let inside : i < length l = omega (arith, less, fits, long (goal.at.loop-i-preserved c).Start) in (
       fits,
       omega (arith, less),
-      one_more_lem (entry_in c.args.purses t) same_entry l n zero_entry (long (goal.at.loop-i-preserved c).At-loop-i) fits i less c.loop-i.invariant.2
-          (entry_at c.args.purses t (get_or l i zero_entry) c.place-a.result _ (long-table (goal.at.loop-i-preserved c).At-loop-i) c.place-a.ensures c.entry_beside.ensures)
-          (not-false _ c.if-not-entry_beside.false),
-      apart_more same_entry turn_entry l i i zero_entry inside c.loop-i.invariant.3 (sym (searched c.before) ∙ c.if-again.false) refl,
-      key_more same_entry entry_key entry_key_lem l keys i c.key-k.result zero_entry (long (goal.at.loop-i-preserved c).At-loop-i) (omega (arith, less, fits)) c.loop-i.invariant.4 c.key-k.ensures,
+      one_more_lem (entry_in c.args.purses t) same_entry l n zero_entry (long (goal.at.loop-i-preserved c).Start) fits i less c.loop-i.invariant.2
+          (entry_at c.args.purses t (get_or l i zero_entry) c.place-a.result _ (long-table (goal.at.loop-i-preserved c).Start) c.place-a.ensures c.entry_beside.ensures)
+          c.if-not-entry_beside.false,
+      apart_more same_entry turn_entry l i i zero_entry inside c.loop-i.invariant.3 (sym (searched (goal.at.loop-i-preserved c).After-loop-j) ∙ c.if-again.false) refl,
+      key_more same_entry entry_key entry_key_lem l keys i c.key-k.result zero_entry (long (goal.at.loop-i-preserved c).Start) (omega (arith, less, fits)) c.loop-i.invariant.4 c.key-k.ensures,
     )
 
 pub returns : goal.returns

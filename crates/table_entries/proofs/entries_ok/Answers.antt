@@ -9,6 +9,7 @@ use Rattle.rules.specs.Laid.{is_zero_entry}
 use Rattle.table_records.specs.Records.{entry_in, collected_ok, entries_ok}
 use Rattle.table_records.proofs.Asked.{asked, none_used, with_unused}
 use Rattle.table_entries.proofs.entries_ok.Goals as goal
+use Rattle.table_entries.proofs.entries_ok.Goals.{then-archive-eq0, else-archive-eq0}
 
 pub returns : goal.returns
 unfolding collected_ok entries_ok
@@ -17,5 +18,9 @@ returns c =
     let l = c.args.archive.places in
     let n = c.args.archive.count in
     let used : c.if-archive-eq0.beside ≡ asked f same_entry l n =
-    ⊎_elim (λ w. w.1 ∙ none_used f same_entry l n w.0.taken) (λ w. w.2 ∙ w.1.ensures) c.if-archive-eq0.branch in
+    elim c.if-archive-eq0.branch [
+      | then-archive-eq0 w ↦ w.beside-is ∙ none_used f same_entry l n w.if-archive-eq0.true
+      | else-archive-eq0 w ↦ w.beside-is ∙ w.collected_ok-beside.ensures
+    ]
+    in
     rw (c.places_ok.ensures, used) (with_unused f same_entry l n is_zero_entry)

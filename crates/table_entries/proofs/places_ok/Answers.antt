@@ -19,7 +19,7 @@ loop-i-init c = refl
 
 pub loop-i-preserved : goal.loop-i-preserved
 unfolding is_zero_entry same_entry
-loop-i-preserved c = rest_more is_zero_entry c.args.archive.places c.loop-i.i zero_entry c.loop-i.ok (omega (arith, long (goal.at.loop-i-preserved c).At-loop-i)) c.loop-i.invariant (rw c.is_unused.ensures)
+loop-i-preserved c = rest_more is_zero_entry c.args.archive.places c.loop-i.i zero_entry c.loop-i.ok (omega (arith, long (goal.at.loop-i-preserved c).Start)) c.loop-i.invariant (rw c.is_unused.ensures)
 
 pub returns : goal.returns
 returns c =

@@ -1,5 +1,6 @@
 -- `table_messages::message_alone` meets its contract: kinds 1 to 3 by what the tests of the details promise, no other kind. Assumes nothing.
 use Prim.Native.Nat.{◌≤◌}
+use mathlib.Core.Path.{◌≡◌}
 use native.Mathlib.Omega.{arith}
 use borrow.Author.Tests.{le-leb, lt-leb}
 use Rattle.table_records.specs.Records.{message_alone}
@@ -14,7 +15,9 @@ returns-in-1 c =
 
 pub returns-in-0 : goal.returns-in-0
 unfolding message_alone
-returns-in-0 c = simp c.in-0.is
+returns-in-0 c =
+    let none : c.args.m.kind ≡ 0 = omega arith in
+    simp none
 
 pub returns-in-0-2 : goal.returns-in-0-2
 unfolding message_alone

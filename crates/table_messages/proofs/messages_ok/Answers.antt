@@ -9,6 +9,7 @@ use Rattle.rules.specs.Laid.{is_zero_message}
 use Rattle.table_records.specs.Records.{message_in, standing_ok, messages_ok}
 use Rattle.table_records.proofs.Asked.{asked, none_used, with_unused}
 use Rattle.table_messages.proofs.messages_ok.Goals as goal
+use Rattle.table_messages.proofs.messages_ok.Goals.{then-ether-eq0, else-ether-eq0}
 
 pub returns : goal.returns
 unfolding standing_ok messages_ok
@@ -17,5 +18,9 @@ returns c =
     let l = c.args.ether.places in
     let n = c.args.ether.count in
     let used : c.if-ether-eq0.beside ≡ asked f same_message l n =
-    ⊎_elim (λ w. w.1 ∙ none_used f same_message l n w.0.taken) (λ w. w.2 ∙ w.1.ensures) c.if-ether-eq0.branch in
+    elim c.if-ether-eq0.branch [
+      | then-ether-eq0 w ↦ w.beside-is ∙ none_used f same_message l n w.if-ether-eq0.true
+      | else-ether-eq0 w ↦ w.beside-is ∙ w.standing_ok-beside.ensures
+    ]
+    in
     rw (c.places_ok.ensures, used) (with_unused f same_message l n is_zero_message)
