@@ -33,10 +33,11 @@ cards c =
 -- the two passes are the figure
 both : (c : After-sum-rest) → c.sum-cards.result + c.sum-rest.result ≡ claims (seen c.args.held)
 both c =
-    let chosen = c.before.before.before.before.before.before.before in
-    let h = chosen.before.before.args.held in
-    let first : c.sum-cards.result ≡ total (entry_claim h.table h.desk.archive) (log_entries h.desk.purses h.table) = c.sum-cards.ensures ∙ ap (total (entry_claim h.table h.desk.archive)) (cards c.before.before) in
-    omega (arith, first, c.sum-rest.ensures, claims_once h (obeys chosen))
+    let h = c.args.held in
+    let all-logs : collected c.logs-on_cards.result ≡ log_entries h.desk.purses h.table =
+    ap collected c.logs-on_cards.ensures ∙ taken_back 256 zero_entry (log_entries h.desk.purses h.table) in
+    let first : c.sum-cards.result ≡ total (entry_claim h.table h.desk.archive) (log_entries h.desk.purses h.table) = c.sum-cards.ensures ∙ ap (total (entry_claim h.table h.desk.archive)) all-logs in
+    omega (arith, first, c.sum-rest.ensures, claims_once h (sym c.held_ok.ensures ∙ c.if-held_ok.true))
 
 pub logs-on_cards-requires : goal.logs-on_cards-requires
 logs-on_cards-requires c =
@@ -47,7 +48,7 @@ pub sum-cards-requires : goal.sum-cards-requires
 sum-cards-requires c =
     let h = c.args.held in
     let legal = logs_legal h (obeys (goal.at.sum-cards-requires c).Then-held_ok) in
-    (c.keys_of-keys.ensures, few_entries h (obeys (goal.at.sum-cards-requires c).Then-held_ok), omega (arith, ap (λ (x : Archive). x.count) c.logs-on_cards.ensures, legal.1), ap (all bounded) (cards c) ∙ legal.0)
+    (c.keys_of-keys.ensures, few_entries h (obeys (goal.at.sum-cards-requires c).Then-held_ok), omega (arith, ap (λ (x : Archive). x.count) c.logs-on_cards.ensures, legal.1), ap (all bounded) (cards (goal.at.sum-cards-requires c).After-logs-on_cards) ∙ legal.0)
 
 pub sum-rest-requires : goal.sum-rest-requires
 sum-rest-requires c =
@@ -57,12 +58,12 @@ sum-rest-requires c =
 pub overflow_add-result : goal.overflow_add-result
 overflow_add-result c =
     let h = c.args.held in
-    let fits : c.sum-cards.result + c.sum-rest.result ≤ 1280000000 = omega (arith, both c, claims_most (seen h) (seen_ok h (obeys (goal.at.overflow_add-result c).Then-held_ok))) in
+    let fits : c.sum-cards.result + c.sum-rest.result ≤ 1280000000 = omega (arith, both (goal.at.overflow_add-result c).After-sum-rest, claims_most (seen h) (seen_ok h (obeys (goal.at.overflow_add-result c).Then-held_ok))) in
     search rules
 
 pub returns-then-held_ok : goal.returns-then-held_ok
 unfolding held_claims
-returns-then-held_ok c = simp (obeys c.before.before.before.before.before.before.before, both c)
+returns-then-held_ok c = simp (obeys (goal.at.returns-then-held_ok c).Then-held_ok, both (goal.at.returns-then-held_ok c).After-sum-rest)
 
 pub returns-else-held_ok : goal.returns-else-held_ok
 unfolding held_claims

@@ -18,11 +18,10 @@ pub loop-i-init : goal.loop-i-init
 loop-i-init c = (omega arith, (refl, refl))
 
 pub loop-i-preserved : goal.loop-i-preserved
-loop-i-preserved c =
-    (
-      omega arith,
-      key_more same_entry entry_key entry_key_lem c.args.a.places c.loop-i.keys c.loop-i.i c.key.result zero_entry (long (goal.at.loop-i-preserved c).At-loop-i) (omega (arith, c.loop-i-test.true)) c.loop-i.invariant.1 c.key.ensures,
-    )
+loop-i-preserved c = (
+  omega arith,
+  key_more same_entry entry_key entry_key_lem c.args.a.places c.loop-i.keys c.loop-i.i c.key.result zero_entry (long (goal.at.loop-i-preserved c).Start) (omega (arith, c.loop-i-test.true)) c.loop-i.invariant.1 c.key.ensures,
+)
 
 pub returns : goal.returns
 returns c =

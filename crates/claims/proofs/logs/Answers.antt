@@ -21,11 +21,7 @@ use Rattle.desk.specs.Desk.{zero_entry}
 use Rattle.claims.specs.Claims.{entry_by, log_entries, held_as, log_fits}
 use Rattle.claims.proofs.Gathered.{row, row_more, row_whole}
 use Rattle.claims.proofs.logs.Goals as goal
-use Rattle.claims.proofs.logs.Goals.{After-d-1, In-loop-own, Start}
-
--- the entries so far lie in the first places, n of them
-abbrev Lie : List Entry → List Entry → ℕ → Type 0
-Lie es places n = (places ≡ padded 256 zero_entry es) × (n ≡ length es)
+use Rattle.claims.proofs.logs.Goals.{Start}
 
 long-table : (start : Start) → length start.args.table ≡ 32
 long-table start = start.well_formed.0.1.0.1
@@ -40,49 +36,31 @@ record Fits (table : List Purse) (own : ℕ) : Type 0 where
   eight : length (get_or table own none).log ≡ 8
   few : (get_or table own none).logged ≤ 8
 
-fits-at : (c : In-loop-own) → Fits c.args.table c.loop-own.own
-fits-at c =
-    let start = c.before.before.before in
-    let own = c.loop-own.own in
+fits-at : (start : Start) (own : ℕ) → own < start.args.purses → Fits start.args.table own
+fits-at start own below =
     let l = start.args.table in
-    let less : own < length l = omega (arith, long-table start, start.requires.0, c.loop-own-test.true) in
+    let less : own < length l = omega (arith, long-table start, start.requires.0, below) in
     let p : Purse = get_or l own none in
     let ok : log_fits p ≡ true =
-    ap log_fits (at_any l own none zero_purse less) ∙ every_at (λ (p : ℕ). log_fits (get_or l p zero_purse)) start.args.purses own start.requires.1 (omega (arith, c.loop-own-test.true)) in
+    ap log_fits (at_any l own none zero_purse less) ∙ every_at (λ (p : ℕ). log_fits (get_or l p zero_purse)) start.args.purses own start.requires.1 below in
     record {
       inside = less;
       eight = eqb-true _ _ (and_l (eqb (length p.log) 8) (leb p.logged 8) ok);
       few = leb-true _ _ (and_r (eqb (length p.log) 8) (leb p.logged 8) ok);
     }
 
--- there is a place behind those that stand
-room : (c : After-d-1) → c.loop-i.n < 256
-room c =
-    let at-loop2 = c.before.before in
-    let in-loop = at-loop2.before.before in
-    let start = in-loop.before.before.before in
-    omega (arith, at-loop2.loop2.invariant.0, at-loop2.loop2.invariant.2, c.loop-i-test.true, in-loop.loop-test.true, start.requires.0)
-
 pub loop-own-init : goal.loop-own-init
 loop-own-init c = (omega arith, omega arith, (ap (λ (e : Entry). replicate 256 e) c.zero-unused.ensures, refl))
 
 pub overflow_cast-count : goal.overflow_cast-count
 overflow_cast-count c =
-    let few = (fits-at c.before).few in
+    let few = (fits-at (goal.at.overflow_cast-count c).Start c.loop-own.own c.loop-own-test.true).few in
     search rules
 
 pub loop-i-init : goal.loop-i-init
 loop-i-init c =
     let so_far = append-nil (log_entries c.loop-own.own c.args.table) in
-    ((fits-at c.before).few, omega arith, omega (arith, c.loop-own.invariant.1), (c.loop-own.invariant.2.0 ∙ ap (padded 256 zero_entry) (sym so_far), c.loop-own.invariant.2.1 ∙ ap length (sym so_far)))
-
-pub bounds-places-n : goal.bounds-places-n
-bounds-places-n c = room c
-
-pub overflow_add-n : goal.overflow_add-n
-overflow_add-n c =
-    let less = room c in
-    search rules
+    ((fits-at (goal.at.loop-i-init c).Start c.loop-own.own c.loop-own-test.true).few, omega arith, omega (arith, c.loop-own.invariant.1), (c.loop-own.invariant.2.0 ∙ ap (padded 256 zero_entry) (sym so_far), c.loop-own.invariant.2.1 ∙ ap length (sym so_far)))
 
 pub loop-i-preserved : goal.loop-i-preserved
 loop-i-preserved c =
@@ -93,12 +71,12 @@ loop-i-preserved c =
     let lie = c.loop-i.invariant.3 in
     let es : List Entry = row own l log i in
     let e : Entry = entry_by own (get_or log i zero_details) in
-    let more : row own l log (i + 1) ≡ es ++ (e ∷ []) = row_more own l log i (omega (arith, (fits-at (goal.at.loop-i-preserved c).In-loop-own).eight, c.loop-i.invariant.0, c.loop-i-test.true)) in (
+    let more : row own l log (i + 1) ≡ es ++ (e ∷ []) = row_more own l log i (omega (arith, (fits-at (goal.at.loop-i-preserved c).Start c.loop-own.own c.loop-own-test.true).eight, c.loop-i.invariant.0, c.loop-i-test.true)) in (
       c.loop-i.invariant.0,
       omega (arith, c.loop-i-test.true),
       omega (arith, c.loop-i.invariant.2),
       (
-        (λ k. set (lie.0 k) (lie.1 k) e) ∙ (push_padded 256 zero_entry es e (omega (arith, lie.1, room c)) ∙ ap (padded 256 zero_entry) (sym more)),
+        (λ k. set (lie.0 k) (lie.1 k) e) ∙ (push_padded 256 zero_entry es e (omega (arith, lie.1, c.loop-i.invariant.0, c.loop-i.invariant.2, c.loop-i-test.true, c.loop-own-test.true, c.requires.0)) ∙ ap (padded 256 zero_entry) (sym more)),
         omega (arith, lie.1, ap length more, length-append es (e ∷ [])),
       ),
     )
@@ -108,7 +86,7 @@ loop-own-preserved c =
     let l = c.args.table in
     let own = c.loop-own.own in
     let lie = c.loop-i.invariant.3 in
-    let fits = fits-at (goal.at.loop-own-preserved c).In-loop-own in
+    let fits = fits-at (goal.at.loop-own-preserved c).Start c.loop-own.own c.loop-own-test.true in
     let done : c.loop-i.i ≡ (get_or l own none).logged = omega (arith, c.loop-i.invariant.1, c.loop-i-test.false) in
     let whole : row own l (get_or l own none).log c.loop-i.i ≡ log_entries (own + 1) l = row_whole own l none c.loop-i.i fits.inside done in
     (omega (arith, c.loop-own-test.true), omega (arith, c.loop-i.invariant.2, fits.few, done), (lie.0 ∙ ap (padded 256 zero_entry) whole, lie.1 ∙ ap length whole))

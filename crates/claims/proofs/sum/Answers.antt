@@ -17,13 +17,14 @@ use Rattle.purse.proofs.Lists.{among_next}
 use Rattle.purse.proofs.Count.{total-next}
 use Rattle.purse.proofs.Walks.{more_any}
 use Rattle.desk.specs.declared.Entry.{Entry}
+use Rattle.desk.specs.declared.Archive.{Archive}
 use Rattle.desk.specs.Desk.{zero_entry, same_entry}
 use Rattle.table_records.specs.Records.{record_of}
 use Rattle.table_records.proofs.Lookups.{looked_up}
 use Rattle.claims.specs.Claims.{payee_logged, claim_beside, entry_claim, bounded}
 use Rattle.claims.proofs.Partners.{partner, partner_found, claim_most, bounded_at}
 use Rattle.claims.proofs.sum.Goals as goal
-use Rattle.claims.proofs.sum.Goals.{After-loop-j, At-loop-i, In-loop-j, Start}
+use Rattle.claims.proofs.sum.Goals.{After-loop-j, Start, then-hit, else-hit, then-payer-on_card, else-payer-on_card, then-payer-logged, else-payer-logged}
 
 long : (start : Start) → length start.args.a.places ≡ 256
 long start = start.well_formed.1.0.1.1.0.1.0.1
@@ -31,124 +32,107 @@ long start = start.well_formed.1.0.1.1.0.1.0.1
 long-entries : (start : Start) → length start.args.es.places ≡ 256
 long-entries start = start.well_formed.1.1.1.0.1.1.0.1.0.1
 
-looking : (c : In-loop-j) → c.loop-j.j < c.if-hit.end
-looking c = ltb-true _ _ (and_l _ _ c.loop-j-test.true)
+-- the entry of a turn, and what is asked of it
+abbrev e : After-loop-j → Entry
+e c = get_or c.args.es.places c.loop-i.i zero_entry
+
+abbrev payer : After-loop-j → Bool
+payer c = eqb (e c).by.0 (e c).details.payer.0
+
+finds : (c : After-loop-j) → (payer c && c.loop-j.logged) ≡ (payer c && payee_logged (record_of c.args.table (e c).details.payee) c.args.a (e c).details)
+finds c =
+    let a = c.args.a in
+    let keys = c.args.keys in
+    let k = c.key-k.result in
+    let last = c.if-payer-on_card.last in
+    let end = c.if-hit.end in
+    let logged = c.loop-j.logged in
+    let all-keys : c.loop-s.s ≡ last = omega (arith, c.loop-s.invariant.1, c.loop-s-test.false) in
+    let done : (c.loop-j.j ≡ end) ⊎ (logged ≡ true) =
+    ⊎_elim
+    (λ (y : logged ≡ true). inr y)
+    (λ (n : logged ≡ false).
+    let past : end ≤ c.loop-j.j = ltb-false _ _ (rw (n, and-true (ltb c.loop-j.j end)) at c.loop-j-test.false) in
+    inl (omega (arith, past, c.loop-j.invariant.1)))
+    (which logged) in
+    partner_found _ a keys (e c) c.well_formed.1.1.0.1.0.1 c.requires.0 k last end c.loop-j.j c.key-k.ensures c.loop-s.hit c.in_log-on_card.result logged
+    (c.loop-s.invariant.2 ∙ ap (λ (n : ℕ). among eqb k (take n keys)) all-keys)
+    (elim c.if-hit.branch [ then-hit w ↦ inl (w.if-hit.true, w.end-is) | else-hit w ↦ inr (w.if-hit.false, w.end-is) ])
+    c.loop-j.invariant.1
+    done
+    c.loop-j.invariant.2
+    (payer c)
+    (elim c.if-payer-on_card.branch [
+      then-payer-on_card w ↦ inl (w.if-payer-on_card.true, w.last-is)
+    | else-payer-on_card w ↦ inr (w.if-payer-on_card.false, w.last-is)
+    ])
+    c.in_log-on_card.ensures
+    ∙ ap (λ (q : Purse). payer c && payee_logged q a (e c).details) (looked_up c.args.table (e c).details.payee c.place-other.result _ c.well_formed.0.1.0.1 c.place-other.ensures)
 
 -- what the entry adds
-module _ (c : After-loop-j) where
-  abbrev at-loop : At-loop-i
-  at-loop = c.before.before.before.before.before.before.before.before.before.before.before.before.before.before.before.before
+adds : (c : After-loop-j) → cond (payer c && c.loop-j.logged) (e c).details.amount.0 0 ≡ entry_claim c.args.table c.args.a (e c)
+unfolding claim_beside
+adds c = ap (λ (t : Bool). cond t (e c).details.amount.0 0) (finds c)
 
-  abbrev start : Start
-  start = at-loop.before
-
-  abbrev e : Entry
-  e = get_or start.args.es.places at-loop.loop.i zero_entry
-
-  abbrev payer : Bool
-  payer = eqb e.by.0 e.details.payer.0
-
-  abbrev logged : Bool
-  logged = c.before.loop3.logged
-
-  finds : (payer && logged) ≡ (payer && payee_logged (record_of start.args.table e.details.payee) start.args.a e.details)
-  finds =
-      let at-loop3 = c.before in
-      let looked = at-loop3.before in
-      let at-loop2 = looked.before.before in
-      let chosen = at-loop2.before in
-      let card = chosen.before in
-      let key = card.before.key in
-      let other = card.before.before.before.before.before.before.place in
-      let a = start.args.a in
-      let keys = start.args.keys in
-      let all-keys : at-loop2.loop2.s ≡ chosen.if1.new = omega (arith, at-loop2.loop2.invariant.1, looked.before.loop2-test.false) in
-      let done : (at-loop3.loop3.j ≡ looked.if2.end) ⊎ (logged ≡ true) =
-      ⊎_elim
-      (λ (y : logged ≡ true). inr y)
-      (λ (n : logged ≡ false).
-      let past : looked.if2.end ≤ at-loop3.loop3.j = ltb-false _ _ (rw (n, and-true (ltb at-loop3.loop3.j looked.if2.end)) at c.loop3-test.false) in
-      inl (omega (arith, past, at-loop3.loop3.invariant.1)))
-      (which logged) in
-      partner_found _ a keys e start.good.1.1.0.1.0.1 start.pre.0 key.result chosen.if1.new looked.if2.end at-loop3.loop3.j key.ensures at-loop2.loop2.hit card.in-log.result logged
-      (at-loop2.loop2.invariant.2 ∙ ap (λ (n : ℕ). among eqb key.result (take n keys)) all-keys)
-      (⊎_elim (λ w. inl (w.0.taken, w.1)) (λ w. inr (w.0.left, w.1)) looked.if2.branch)
-      at-loop3.loop3.invariant.1
-      done
-      at-loop3.loop3.invariant.2
-      payer
-      (⊎_elim (λ w. inl (w.0.taken, w.1)) (λ w. inr (w.0.left, w.1)) chosen.if1.branch)
-      card.in-log.ensures
-      ∙ ap (λ (q : Purse). payer && payee_logged q a e.details) (looked_up start.args.table e.details.payee other.result _ start.good.0.1.0.1 other.ensures)
-
-  adds : cond (payer && logged) e.details.amount.0 0 ≡ entry_claim start.args.table start.args.a e
-  unfolding claim_beside
-  adds = ap (λ (t : Bool). cond t e.details.amount.0 0) finds
-
-  legal : bounded e ≡ true
-  legal = bounded_at start.args.es.places start.args.es.count at-loop.loop.i zero_entry (omega (arith, long-entries start, start.pre.2)) (omega (arith, c.before.before.before.before.before.before.before.before.before.before.before.before.before.before.before.loop-test.true)) start.pre.3
+legal : (c : After-loop-j) (start : Start) → start.args.es ≡ c.args.es → bounded (e c) ≡ true
+legal c start same = bounded_at c.args.es.places c.args.es.count c.loop-i.i zero_entry (omega (arith, ap (λ (a : Archive). length a.places) same, long-entries start, c.requires.2)) (omega (arith, c.loop-i-test.true)) c.requires.3
 
 pub loop-i-init : goal.loop-i-init
 loop-i-init c = (omega arith, refl, omega arith)
 
 pub loop-s-init : goal.loop-s-init
-loop-s-init c = (⊎_elim (λ w. omega (arith, w.1, c.requires.1)) (λ w. omega (arith, w.1)) c.if-payer-on_card.branch, omega arith, refl)
+loop-s-init c = (elim c.if-payer-on_card.branch [ then-payer-on_card w ↦ omega (arith, w.last-is, c.requires.1) | else-payer-on_card w ↦ omega (arith, w.last-is) ], omega arith, refl)
 
 pub loop-s-preserved : goal.loop-s-preserved
-loop-s-preserved c =
-    (
-      c.loop-s.invariant.0,
-      omega (arith, c.loop-s-test.true),
-      more_any eqb c.key-k.result c.args.keys c.loop-s.s 0 (omega (arith, c.loop-s-test.true, c.loop-s.invariant.0, c.well_formed.1.1.0.1.0.1)) c.loop-s.invariant.2 refl,
-    )
+loop-s-preserved c = (
+  c.loop-s.invariant.0,
+  omega (arith, c.loop-s-test.true),
+  more_any eqb c.key-k.result c.args.keys c.loop-s.s 0 (omega (arith, c.loop-s-test.true, c.loop-s.invariant.0, c.well_formed.1.1.0.1.0.1)) c.loop-s.invariant.2 refl,
+)
 
 pub loop-j-init : goal.loop-j-init
-loop-j-init c = (⊎_elim (λ w. omega (arith, w.1, c.loop-s.invariant.0)) (λ w. omega (arith, w.1)) c.if-hit.branch, omega arith, sym (or-false c.in_log-on_card.result))
-
-pub bounds-a-j : goal.bounds-a-j
-bounds-a-j c =
-    let less = looking c in
-    omega (arith, less, c.loop-j.invariant.0)
+loop-j-init c = (elim c.if-hit.branch [ then-hit w ↦ omega (arith, w.end-is, c.loop-s.invariant.0) | else-hit w ↦ omega (arith, w.end-is) ], omega arith, sym (or-false c.in_log-on_card.result))
 
 pub loop-j-smaller : goal.loop-j-smaller
 loop-j-smaller c =
-    let less = looking c.before.before in
+    let less : c.loop-j.j < c.if-hit.end = ltb-true _ _ (and_l _ _ c.loop-j-test.true) in
     search rules
 
 pub loop-j-preserved : goal.loop-j-preserved
 loop-j-preserved c =
-    let on-card = c.in_log-on_card.result in
+    let on_card = c.in_log-on_card.result in
     let l = c.args.a.places in
     let j = c.loop-j.j in
     let x : Entry = partner (get_or c.args.es.places c.loop-i.i zero_entry) in
-    let less = looking c.before.before in
-    let inside : j < length l = omega (arith, less, c.loop-j.invariant.0, long (goal.at.loop-j-preserved c).At-loop-i) in (
+    let less : c.loop-j.j < c.if-hit.end = ltb-true _ _ (and_l _ _ c.loop-j-test.true) in
+    let inside : j < length l = omega (arith, less, c.loop-j.invariant.0, long (goal.at.loop-j-preserved c).Start) in (
       c.loop-j.invariant.0,
       omega (arith, less),
       rw (c.loop-j.invariant.2, c.same-logged.ensures)
-          (or_assoc on-card (among same_entry x (take j l)) (same_entry x (get_or l j zero_entry)) ∙ ap (λ (t : Bool). on-card || t) (sym (among_next same_entry x l j zero_entry inside))),
+          (or_assoc on_card (among same_entry x (take j l)) (same_entry x (get_or l j zero_entry)) ∙ ap (λ (t : Bool). on_card || t) (sym (among_next same_entry x l j zero_entry inside))),
     )
 
 pub overflow_add-sum : goal.overflow_add-sum
 overflow_add-sum c =
-    let most : (e (goal.at.overflow_add-sum c).After-loop-j).details.amount.0 ≤ 5000000 = leb-true _ _ (legal (goal.at.overflow_add-sum c).After-loop-j) in
-    let so_far : (at-loop (goal.at.overflow_add-sum c).After-loop-j).loop.sum ≤ 1280000000 = omega (arith, (at-loop (goal.at.overflow_add-sum c).After-loop-j).loop.invariant.2, (at-loop (goal.at.overflow_add-sum c).After-loop-j).loop.invariant.0, (start (goal.at.overflow_add-sum c).After-loop-j).requires.2) in
+    let most : (e (goal.at.overflow_add-sum c).After-loop-j).details.amount.0 ≤ 5000000 = leb-true _ _ (legal (goal.at.overflow_add-sum c).After-loop-j (goal.at.overflow_add-sum c).Start refl) in
+    let so_far : c.loop-i.sum ≤ 1280000000 = omega (arith, c.loop-i.invariant.2, c.loop-i.invariant.0, c.requires.2) in
     search rules
 
 pub loop-i-preserved : goal.loop-i-preserved
 loop-i-preserved c =
-    let before = (at-loop (goal.at.loop-i-preserved c).After-loop-j).loop in
-    let w : Entry → ℕ = entry_claim (start (goal.at.loop-i-preserved c).After-loop-j).args.table (start (goal.at.loop-i-preserved c).After-loop-j).args.a in
-    let l = (start (goal.at.loop-i-preserved c).After-loop-j).args.es.places in
+    let before = c.loop-i in
+    let w : Entry → ℕ = entry_claim c.args.table c.args.a in
+    let l = c.args.es.places in
     let i = before.i in
-    let less : i < (start (goal.at.loop-i-preserved c).After-loop-j).args.es.count = omega (arith, c.loop-i-test.true) in
+    let less : i < c.args.es.count = omega (arith, c.loop-i-test.true) in
     let added : c.if-payer-logged.sum ≡ before.sum + w (e (goal.at.loop-i-preserved c).After-loop-j) =
-    ⊎_elim
-    (λ v. v.2 ∙ ap (λ (n : ℕ). before.sum + n) (ap (λ (t : Bool). cond t (e (goal.at.loop-i-preserved c).After-loop-j).details.amount.0 0) (sym v.0.taken) ∙ adds (goal.at.loop-i-preserved c).After-loop-j))
-    (λ v. v.1 ∙ omega (arith, adds (goal.at.loop-i-preserved c).After-loop-j, ap (λ (t : Bool). cond t (e (goal.at.loop-i-preserved c).After-loop-j).details.amount.0 0) v.0.left))
-    c.if-payer-logged.branch in
-    let next : total w (take (i + 1) l) ≡ total w (take i l) + w (e (goal.at.loop-i-preserved c).After-loop-j) = total-next w l i zero_entry (omega (arith, less, (start (goal.at.loop-i-preserved c).After-loop-j).requires.2, long-entries (start (goal.at.loop-i-preserved c).After-loop-j))) in
-    (omega (arith, less), omega (arith, added, next, before.inv.1), omega (arith, added, before.inv.2, claim_most (record_of (start (goal.at.loop-i-preserved c).After-loop-j).args.table (e (goal.at.loop-i-preserved c).After-loop-j).details.payee) (start (goal.at.loop-i-preserved c).After-loop-j).args.a (e (goal.at.loop-i-preserved c).After-loop-j) (legal (goal.at.loop-i-preserved c).After-loop-j)))
+    elim c.if-payer-logged.branch [
+      then-payer-logged v ↦ v.sum-is ∙ ap (λ (n : ℕ). before.sum + n) (ap (λ (t : Bool). cond t (e (goal.at.loop-i-preserved c).After-loop-j).details.amount.0 0) (sym v.if-payer-logged.true) ∙ adds (goal.at.loop-i-preserved c).After-loop-j)
+    | else-payer-logged v ↦ v.sum-is ∙ omega (arith, adds (goal.at.loop-i-preserved c).After-loop-j, ap (λ (t : Bool). cond t (e (goal.at.loop-i-preserved c).After-loop-j).details.amount.0 0) v.if-payer-logged.false)
+    ]
+    in
+    let next : total w (take (i + 1) l) ≡ total w (take i l) + w (e (goal.at.loop-i-preserved c).After-loop-j) = total-next w l i zero_entry (omega (arith, less, c.requires.2, long-entries (goal.at.loop-i-preserved c).Start)) in
+    (omega (arith, less), omega (arith, added, next, before.invariant.1), omega (arith, added, before.invariant.2, claim_most (record_of c.args.table (e (goal.at.loop-i-preserved c).After-loop-j).details.payee) c.args.a (e (goal.at.loop-i-preserved c).After-loop-j) (legal (goal.at.loop-i-preserved c).After-loop-j (goal.at.loop-i-preserved c).Start refl)))
 
 pub returns : goal.returns
 returns c =
