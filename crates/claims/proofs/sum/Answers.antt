@@ -63,8 +63,8 @@ finds c =
     c.loop-j.invariant.2
     (payer c)
     (elim c.if-payer-on_card.branch [
-      then-payer-on_card w ↦ inl (w.if-payer-on_card.true, w.last-is)
-    | else-payer-on_card w ↦ inr (w.if-payer-on_card.false, w.last-is)
+      | then-payer-on_card w ↦ inl (w.if-payer-on_card.true, w.last-is)
+      | else-payer-on_card w ↦ inr (w.if-payer-on_card.false, w.last-is)
     ])
     c.in_log-on_card.ensures
     ∙ ap (λ (q : Purse). payer c && payee_logged q a (e c).details) (looked_up c.args.table (e c).details.payee c.place-other.result _ c.well_formed.0.1.0.1 c.place-other.ensures)
@@ -127,8 +127,8 @@ loop-i-preserved c =
     let less : i < c.args.es.count = omega (arith, c.loop-i-test.true) in
     let added : c.if-payer-logged.sum ≡ before.sum + w (e (goal.at.loop-i-preserved c).After-loop-j) =
     elim c.if-payer-logged.branch [
-      then-payer-logged v ↦ v.sum-is ∙ ap (λ (n : ℕ). before.sum + n) (ap (λ (t : Bool). cond t (e (goal.at.loop-i-preserved c).After-loop-j).details.amount.0 0) (sym v.if-payer-logged.true) ∙ adds (goal.at.loop-i-preserved c).After-loop-j)
-    | else-payer-logged v ↦ v.sum-is ∙ omega (arith, adds (goal.at.loop-i-preserved c).After-loop-j, ap (λ (t : Bool). cond t (e (goal.at.loop-i-preserved c).After-loop-j).details.amount.0 0) v.if-payer-logged.false)
+      | then-payer-logged v ↦ v.sum-is ∙ ap (λ (n : ℕ). before.sum + n) (ap (λ (t : Bool). cond t (e (goal.at.loop-i-preserved c).After-loop-j).details.amount.0 0) (sym v.if-payer-logged.true) ∙ adds (goal.at.loop-i-preserved c).After-loop-j)
+      | else-payer-logged v ↦ v.sum-is ∙ omega (arith, adds (goal.at.loop-i-preserved c).After-loop-j, ap (λ (t : Bool). cond t (e (goal.at.loop-i-preserved c).After-loop-j).details.amount.0 0) v.if-payer-logged.false)
     ]
     in
     let next : total w (take (i + 1) l) ≡ total w (take i l) + w (e (goal.at.loop-i-preserved c).After-loop-j) = total-next w l i zero_entry (omega (arith, less, c.requires.2, long-entries (goal.at.loop-i-preserved c).Start)) in
