@@ -28,15 +28,15 @@ module _ (first : ℕ) (answers l : List ℕ) where
   unfolding lines_fit
   fit h k = and_i (le-leb _ _ h) (le-leb _ _ k)
 
-pub returns-then-out-answers : goal.returns-then-out-answers
-returns-then-out-answers c =
+pub returns-then-out-answers-clause-filled : goal.returns-then-out-answers-clause-filled
+returns-then-out-answers-clause-filled c =
     let args = c.args in
-    (not_filled _ _ (too_short args.first args.answers.now args.out.now (omega arith)), search rules)
+    not_filled _ _ (too_short args.first args.answers.now args.out.now (omega arith))
 
-pub returns-then-first-gt1000000000000000000 : goal.returns-then-first-gt1000000000000000000
-returns-then-first-gt1000000000000000000 c =
+pub returns-then-first-gt1000000000000000000-clause-filled : goal.returns-then-first-gt1000000000000000000-clause-filled
+returns-then-first-gt1000000000000000000-clause-filled c =
     let args = c.args in
-    (not_filled _ _ (too_late args.first args.answers.now args.out.now (omega arith) c.if-first-gt1000000000000000000.true), search rules)
+    not_filled _ _ (too_late args.first args.answers.now args.out.now (omega arith) c.if-first-gt1000000000000000000.true)
 
 pub loop-i-init : goal.loop-i-init
 unfolding numbered
@@ -52,17 +52,15 @@ loop-i-preserved c =
       omega arith,
       omega arith,
       omega arith,
-      line_more event_line args.first answers i 0 more (length-take-le i answers (omega arith)) inv.1 inv.3 c.put_event-to.ensures.0,
-      c.put_event-to.auto.0 ∙ inv.4,
+      line_more event_line args.first answers i 0 more (length-take-le i answers (omega arith)) inv.1 inv.3 c.put_event-to.ensures.written,
+      c.put_event-to.auto.out ∙ inv.4,
     )
 
-pub returns : goal.returns
-returns c =
+pub returns-clause-filled : goal.returns-clause-filled
+returns-clause-filled c =
     let args = c.args in
     let answers = args.answers.now in
-    let whole : take c.loop-i.i answers ≡ answers = take_all c.loop-i.i answers (omega arith) in (
-      filled
-          (fit args.first answers args.out.now (omega arith) c.if-first-gt1000000000000000000.false)
-          (same_bytes (ap (λ (l : List ℕ). event_lines args.first l) whole) c.loop-i.invariant.3),
-      search rules,
-    )
+    let whole : take c.loop-i.i answers ≡ answers = take_all c.loop-i.i answers (omega arith) in
+    filled
+    (fit args.first answers args.out.now (omega arith) c.if-first-gt1000000000000000000.false)
+    (same_bytes (ap (λ (l : List ℕ). event_lines args.first l) whole) c.loop-i.invariant.3)

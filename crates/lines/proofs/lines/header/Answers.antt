@@ -5,8 +5,8 @@ use Rattle.lines.proofs.Puts.{filled, not_filled}
 use borrow.Author.Rules.{rules}
 use Rattle.lines.proofs.lines.header.Goals as goal
 
-pub returns-then-out-lt6 : goal.returns-then-out-lt6
-returns-then-out-lt6 c = (not_filled _ _ (lt-leb _ _ c.if-out-lt6.true), search rules)
+pub returns-then-out-lt6-clause-filled : goal.returns-then-out-lt6-clause-filled
+returns-then-out-lt6-clause-filled c = not_filled _ _ (lt-leb _ _ c.if-out-lt6.true)
 
-pub returns : goal.returns
-returns c = (filled (le-leb _ _ c.if-out-lt6.false) c.put_text.ensures, search rules)
+pub returns-clause-filled : goal.returns-clause-filled
+returns-clause-filled c = filled (le-leb _ _ c.if-out-lt6.false) c.put_text.ensures

@@ -5,8 +5,8 @@ use Rattle.lines.proofs.Puts.{then, one_byte}
 use borrow.Author.Rules.{rules}
 use Rattle.lines.proofs.lines.put_event.Goals as goal
 
-pub returns : goal.returns
+pub returns-clause-written : goal.returns-clause-written
 unfolding event_line
-returns c =
-    let fields = then c.put_number-to.ensures.0 c.put_field-to.ensures.0 in
-    (then fields (one_byte c.put_byte.ensures), search rules)
+returns-clause-written c =
+    let fields = then c.put_number-to.ensures.written c.put_field-to.ensures.written in
+    then fields (one_byte c.put_byte.ensures)

@@ -6,9 +6,9 @@ use Rattle.lines.proofs.Puts.{then, one_byte, filled, not_filled}
 use borrow.Author.Rules.{rules}
 use Rattle.lines.proofs.lines.refused.Goals as goal
 
-pub returns-then-out-lt29 : goal.returns-then-out-lt29
-returns-then-out-lt29 c = (not_filled _ _ (lt-leb _ _ c.if-out-lt29.true), search rules)
+pub returns-then-out-lt29-clause-filled : goal.returns-then-out-lt29-clause-filled
+returns-then-out-lt29-clause-filled c = not_filled _ _ (lt-leb _ _ c.if-out-lt29.true)
 
-pub returns : goal.returns
+pub returns-clause-filled : goal.returns-clause-filled
 unfolding opening_line
-returns c = (filled (le-leb _ _ c.if-out-lt29.false) (then c.put_named-to.ensures.0 (one_byte c.put_byte.ensures)), search rules)
+returns-clause-filled c = filled (le-leb _ _ c.if-out-lt29.false) (then c.put_named-to.ensures.written (one_byte c.put_byte.ensures))

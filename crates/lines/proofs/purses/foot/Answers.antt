@@ -8,13 +8,13 @@ use Rattle.lines.proofs.Puts.{same_bytes, filled, not_filled}
 use borrow.Author.Rules.{rules}
 use Rattle.lines.proofs.purses.foot.Goals as goal
 
-pub returns-then-out-lt4096 : goal.returns-then-out-lt4096
-returns-then-out-lt4096 c = (not_filled _ _ (lt-leb _ _ c.if-out-lt4096.true), search rules)
+pub returns-then-out-lt4096-clause-filled : goal.returns-then-out-lt4096-clause-filled
+returns-then-out-lt4096-clause-filled c = not_filled _ _ (lt-leb _ _ c.if-out-lt4096.true)
 
-pub returns : goal.returns
+pub returns-clause-filled : goal.returns-clause-filled
 unfolding foot_of
-returns c =
+returns-clause-filled c =
     let held = c.args.held in
     let claims : foot_with held c.claims-figure.result.claims ≡ foot_of held =
     ap (λ (f : Figure). foot_with held f.claims) c.claims-figure.ensures in
-    (filled (le-leb _ _ c.if-out-lt4096.false) (same_bytes claims c.put_foot.ensures.0), search rules)
+    filled (le-leb _ _ c.if-out-lt4096.false) (same_bytes claims c.put_foot.ensures.written)

@@ -13,12 +13,12 @@ use Rattle.purse.proofs.Lists.{take_least}
 use borrow.Author.Rules.{rules}
 use Rattle.lines.proofs.purses.put_foot.Goals as goal
 
-pub returns : goal.returns
+pub returns-clause-written : goal.returns-clause-written
 unfolding foot_with
-returns c =
+returns-clause-written c =
     let held = c.args.held in
     let n : ℕ = length held.table in
     let long : n ≡ 32 = c.well_formed.1.0.1.1.0.1.0.1 in
     let lines = ap (λ (k : ℕ). numbered purse_line 0 (take k held.table)) c.shown-count.ensures.0 in
     let all = ap (λ (l : List Purse). numbered purse_line 0 l) (take_least held.desk.purses 32 held.table (omega arith)) in
-    (then (same_bytes (lines ∙ all) c.put_purses-to.ensures.0) c.put_last.ensures.0, search rules)
+    then (same_bytes (lines ∙ all) c.put_purses-to.ensures.written) c.put_last.ensures.written

@@ -6,9 +6,9 @@ use Rattle.lines.proofs.Puts.{then, one_byte, then_two}
 use borrow.Author.Rules.{rules}
 use Rattle.lines.proofs.purses.put_last.Goals as goal
 
-pub returns : goal.returns
+pub returns-clause-written : goal.returns-clause-written
 unfolding last_line
-returns c =
+returns-clause-written c =
     let args = c.args in
-    let counts = then_two _ _ (field args.archive) c.put_named-to.ensures.0 c.put_named-to-2.ensures.0 in
-    (then (then_two _ _ (field args.claims) counts c.put_named-to-3.ensures.0) (one_byte c.put_byte.ensures), search rules)
+    let counts = then_two _ _ (field args.archive) c.put_named-to.ensures.written c.put_named-to-2.ensures.written in
+    then (then_two _ _ (field args.claims) counts c.put_named-to-3.ensures.written) (one_byte c.put_byte.ensures)

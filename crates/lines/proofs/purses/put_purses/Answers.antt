@@ -40,11 +40,11 @@ loop-i-preserved c =
     let more : i < length table = omega arith in (
       omega arith,
       omega arith,
-      line_more purse_line 0 table i past_purse more (length-take-le i table (omega arith)) (omega arith) inv.2 c.put_purse-to.ensures.0,
-      c.put_purse-to.auto.0 ∙ inv.3,
+      line_more purse_line 0 table i past_purse more (length-take-le i table (omega arith)) (omega arith) inv.2 c.put_purse-to.ensures.written,
+      c.put_purse-to.auto.out ∙ inv.3,
     )
 
-pub returns : goal.returns
-returns c =
+pub returns-clause-written : goal.returns-clause-written
+returns-clause-written c =
     let all : c.loop-i.i ≡ c.args.count = omega arith in
-    (rw all at c.loop-i.invariant.2, omega arith)
+    rw all at c.loop-i.invariant.2

@@ -4,5 +4,5 @@ use Rattle.lines.proofs.Puts.{then, one_byte}
 use borrow.Author.Rules.{rules}
 use Rattle.lines.proofs.text.put_field.Goals as goal
 
-pub returns : goal.returns
-returns c = (then (one_byte c.put_byte-to.ensures) c.put_number.ensures.0, search rules)
+pub returns-clause-written : goal.returns-clause-written
+returns-clause-written c = then (one_byte c.put_byte-to.ensures) c.put_number.ensures.written

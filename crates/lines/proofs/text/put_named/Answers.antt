@@ -4,5 +4,5 @@ use Rattle.lines.proofs.Puts.{then}
 use borrow.Author.Rules.{rules}
 use Rattle.lines.proofs.text.put_named.Goals as goal
 
-pub returns : goal.returns
-returns c = (then c.put_text-to.ensures c.put_field.ensures.0, search rules)
+pub returns-clause-written : goal.returns-clause-written
+returns-clause-written c = then c.put_text-to.ensures c.put_field.ensures.written
