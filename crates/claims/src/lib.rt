@@ -94,7 +94,8 @@ fn sum(table: [Purse; 32], a: Archive, keys: [u32; 256], es: Archive) -> u32
             logged = logged | partner.same(o);
             j += 1;
         }
-        if payer & logged {
+        let owed = payer & logged;
+        if owed {
             sum += d.amount.0;
         }
         i += 1;

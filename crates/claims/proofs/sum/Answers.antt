@@ -24,7 +24,7 @@ use Rattle.table_records.proofs.Lookups.{looked_up}
 use Rattle.claims.specs.Claims.{payee_logged, claim_beside, entry_claim, bounded}
 use Rattle.claims.proofs.Partners.{partner, partner_found, claim_most, bounded_at}
 use Rattle.claims.proofs.sum.Goals as goal
-use Rattle.claims.proofs.sum.Goals.{After-loop-j, Start, then-hit, else-hit, then-payer-on_card, else-payer-on_card, then-payer-logged, else-payer-logged}
+use Rattle.claims.proofs.sum.Goals.{After-loop-j, Start, then-hit, else-hit, then-payer-on_card, else-payer-on_card, then-owed, else-owed}
 
 long : (start : Start) → length start.args.a.places ≡ 256
 long start = start.well_formed.1.0.1.1.0.1.0.1
@@ -125,10 +125,10 @@ loop-i-preserved c =
     let l = c.args.es.places in
     let i = before.i in
     let less : i < c.args.es.count = omega (arith, c.loop-i-test.true) in
-    let added : c.if-payer-logged.sum ≡ before.sum + w (e (goal.at.loop-i-preserved c).After-loop-j) =
-    elim c.if-payer-logged.branch [
-      | then-payer-logged v ↦ v.sum-is ∙ ap (λ (n : ℕ). before.sum + n) (ap (λ (t : Bool). cond t (e (goal.at.loop-i-preserved c).After-loop-j).details.amount.0 0) (sym v.if-payer-logged.true) ∙ adds (goal.at.loop-i-preserved c).After-loop-j)
-      | else-payer-logged v ↦ v.sum-is ∙ omega (arith, adds (goal.at.loop-i-preserved c).After-loop-j, ap (λ (t : Bool). cond t (e (goal.at.loop-i-preserved c).After-loop-j).details.amount.0 0) v.if-payer-logged.false)
+    let added : c.if-owed.sum ≡ before.sum + w (e (goal.at.loop-i-preserved c).After-loop-j) =
+    elim c.if-owed.branch [
+      | then-owed v ↦ v.sum-is ∙ ap (λ (n : ℕ). before.sum + n) (ap (λ (t : Bool). cond t (e (goal.at.loop-i-preserved c).After-loop-j).details.amount.0 0) (sym v.if-owed.true) ∙ adds (goal.at.loop-i-preserved c).After-loop-j)
+      | else-owed v ↦ v.sum-is ∙ omega (arith, adds (goal.at.loop-i-preserved c).After-loop-j, ap (λ (t : Bool). cond t (e (goal.at.loop-i-preserved c).After-loop-j).details.amount.0 0) v.if-owed.false)
     ]
     in
     let next : total w (take (i + 1) l) ≡ total w (take i l) + w (e (goal.at.loop-i-preserved c).After-loop-j) = total-next w l i zero_entry (omega (arith, less, c.requires.2, long-entries (goal.at.loop-i-preserved c).Start)) in
