@@ -4,7 +4,6 @@ use mathlib.Core.Path.{◌≡◌, sym, ◌∙◌}
 use Rattle.layout.specs.Calls.{write_number}
 use Rattle.layout.proofs.Stands.{held-length}
 use Rattle.writing.proofs.Calls.{write_number_lem, writes, wrote, wrote_nothing}
-use borrow.Author.Rules.{rules}
 use Rattle.writing.proofs.write.Goals as goal
 use Rattle.writing.proofs.write.Goals.{After-tested-n-2}
 
@@ -18,17 +17,17 @@ number c =
 pub put_bench-requires : goal.put_bench-requires
 put_bench-requires c =
     let args = c.args in
-    let ok = writes args.held args.out.now (sym (number c.before.before) ∙ c.if-n-eq0.true) in
+    let ok = writes args.held args.out.now (sym (number (goal.at.put_bench-requires c).After-tested-n-2) ∙ c.if-n-eq0.true) in
     (ok.rules, ok.room)
 
 pub returns-then-n-eq0 : goal.returns-then-n-eq0
 returns-then-n-eq0 c =
     let args = c.args in
-    let none = sym (number c.before.before.before.before.before) ∙ c.if-n-eq0.true in
+    let none = sym (number (goal.at.returns-then-n-eq0 c).After-tested-n-2) ∙ c.if-n-eq0.true in
     let ok = writes args.held args.out.now none in
     wrote args.held args.out.now none (c.image_length-length.ensures ∙ sym (held-length args.held ok.rules)) c.put_bench.ensures
 
 pub returns-else-n-eq0 : goal.returns-else-n-eq0
 returns-else-n-eq0 c =
     let args = c.args in
-    wrote_nothing args.held args.out.now (number c.before) c.if-n-eq0.false
+    wrote_nothing args.held args.out.now (number (goal.at.returns-else-n-eq0 c).After-tested-n-2) c.if-n-eq0.false

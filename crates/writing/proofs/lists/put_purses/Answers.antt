@@ -1,6 +1,5 @@
 -- `writing::lists::put_purses` meets its contract. The invariant is `Wrote`, the law of every loop that writes.
 -- Assumes nothing.
-use Prim.Native.Nat.{◌-◌}
 use mathlib.Core.Path.{◌≡◌, refl, sym, ◌∙◌}
 use lib.ListN.{length}
 use native.Mathlib.Omega.{arith}
