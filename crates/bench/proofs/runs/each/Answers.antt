@@ -19,9 +19,9 @@ use Rattle.rules.specs.Events.{decoded}
 use lib.ListN.{length, take, drop, get_or}
 use Prim.Native.Nat.{ℕ, ◌+◌, ◌*◌, ◌-◌, ◌<◌}
 use mathlib.Core.Path.{◌≡◌, refl, ◌∙◌, ap}
-use mathlib.Core.Logic.{⊎_elim}
 use native.Mathlib.Omega.{arith}
 use Rattle.bench.proofs.runs.each.Goals as goal
+use Rattle.bench.proofs.runs.each.Goals.{then-answer-eq0+in-Nothing, then-answer-eq0+in-Send, then-answer-eq0+in-Lose, then-answer-eq0+in-Store, then-answer-eq0+in-Issue, else-answer-eq0}
 
 pub loop-i-init : goal.loop-i-init
 loop-i-init c = going_start _ _ _ _ c.requires.0
@@ -78,18 +78,25 @@ loop-i-preserved c =
     in
     let s : Answered = record { answer = c.if-answer-eq0.answer; held = bench c.if-answer-eq0.table c.if-answer-eq0.purses c.if-answer-eq0.ether c.if-answer-eq0.archive } in
     let done : s ≡ settled_at h k a t =
-    ⊎_elim
-    (λ w. rw (w.7, w.8, w.9, w.10, w.11) (when-nothing h k a t (omega (arith, w.0.taken)) _ (at_any h.table k _ zero_purse inside) _ w.4.ensures _ w.3.ensures w.6.given.1))
-    (⊎_elim
-    (λ w. rw (w.11, w.12, w.13, w.14, w.15) (when_sent h k a t (omega (arith, w.0.taken)) _ (at_any h.table k _ zero_purse inside) _ w.4.ensures _ w.3.ensures _ w.8.result _ w.6.given.1 w.8.ensures w.10.ensures))
-    (⊎_elim
-    (λ w. rw (w.10, w.11, w.12, w.13, w.14) (when_lost h k a t (omega (arith, w.0.taken)) _ (at_any h.table k _ zero_purse inside) _ w.4.ensures _ w.3.ensures _ w.8.result w.6.given.1 w.8.ensures))
-    (⊎_elim
-    (λ w. rw (w.9, w.10, w.11, w.12, w.13) (when-stored h k a t (omega (arith, w.0.taken)) _ (at_any h.table k _ zero_purse inside) _ w.4.ensures _ w.3.ensures _ w.8.result w.6.given.1 w.8.ensures))
-    (⊎_elim
-    (λ w. rw (w.8, w.9, w.10, w.11, w.12) (when_issued h k a t (omega (arith, w.0.taken)) _ (at_any h.table k _ zero_purse inside) _ w.4.ensures _ w.3.ensures _ w.6.given.1 w.7.ensures))
-    (λ w. rw (w.1, w.2, w.3, w.4, w.5) (when-refused h k a t w.0.left))))))
-    c.if-answer-eq0.branch
+    elim c.if-answer-eq0.branch [
+      | then-answer-eq0+in-Nothing w ↦
+          rw (w.table-is, w.purses-is, w.ether-is, w.archive-is, w.answer-is)
+          (when-nothing h k a t w.if-answer-eq0.true _ (at_any h.table k _ zero_purse inside) _ w.record-q.ensures _ w.change_of-change.ensures w.in-Nothing.is)
+      | then-answer-eq0+in-Send w ↦
+          rw (w.table-is, w.purses-is, w.ether-is, w.archive-is, w.answer-is)
+          (when_sent h k a t w.if-answer-eq0.true _ (at_any h.table k _ zero_purse inside) _ w.record-q.ensures _ w.change_of-change.ensures _ w.add-changed.result _ w.in-Send.is w.add-changed.ensures w.tested-answer.ensures)
+      | then-answer-eq0+in-Lose w ↦
+          rw (w.table-is, w.purses-is, w.ether-is, w.archive-is, w.answer-is)
+          (when_lost h k a t w.if-answer-eq0.true _ (at_any h.table k _ zero_purse inside) _ w.record-q.ensures _ w.change_of-change.ensures _ w.take_out-changed.result w.in-Lose.is w.take_out-changed.ensures)
+      | then-answer-eq0+in-Store w ↦
+          rw (w.table-is, w.purses-is, w.ether-is, w.archive-is, w.answer-is)
+          (when-stored h k a t w.if-answer-eq0.true _ (at_any h.table k _ zero_purse inside) _ w.record-q.ensures _ w.change_of-change.ensures _ w.store-next.result w.in-Store.is w.store-next.ensures)
+      | then-answer-eq0+in-Issue w ↦
+          rw (w.table-is, w.purses-is, w.ether-is, w.archive-is, w.answer-is)
+          (when_issued h k a t w.if-answer-eq0.true _ (at_any h.table k _ zero_purse inside) _ w.record-q.ensures _ w.change_of-change.ensures _ w.in-Issue.is w.one_more-purses.ensures)
+      | else-answer-eq0 w ↦
+          rw (w.table-is, w.purses-is, w.ether-is, w.archive-is, w.answer-is) (when-refused h k a t w.if-answer-eq0.false)
+    ]
     in
     let twelve : 12 * i + 12 - 12 * i ≡ 12 = omega arith in
     let said : s ≡ by_record h (decoded (take 12 (drop (12 * i) input))) =

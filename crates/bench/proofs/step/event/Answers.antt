@@ -7,18 +7,17 @@ use lib.ListN.{get_or}
 use Rattle.bench.proofs.Filling.{run_of_one, no_event}
 use Rattle.rules.specs.Laid.{held_step}
 use native.Mathlib.Omega.{arith}
-use borrow.Author.Tests.{not-true, not-false}
 use Rattle.bench.proofs.step.event.Goals as goal
 
 pub returns-then-not-held_ok : goal.returns-then-not-held_ok
 unfolding held_step
-returns-then-not-held_ok c = rw (sym c.held_ok.ensures ∙ not-true _ c.if-not-held_ok.true)
+returns-then-not-held_ok c = rw (sym c.held_ok.ensures ∙ c.if-not-held_ok.true)
 
 pub returns-then-event-ne12 : goal.returns-then-event-ne12
-returns-then-event-ne12 c = no_event _ _ (sym c.held_ok.ensures ∙ not-false _ c.if-not-held_ok.false) c.if-event-ne12.true
+returns-then-event-ne12 c = no_event _ _ (sym c.held_ok.ensures ∙ c.if-not-held_ok.false) c.if-event-ne12.true
 
 pub each-next-requires : goal.each-next-requires
-each-next-requires c = (sym c.held_ok.ensures ∙ not-false _ c.if-not-held_ok.false, omega (arith, c.if-event-ne12.false), omega arith)
+each-next-requires c = (sym c.held_ok.ensures ∙ c.if-not-held_ok.false, omega (arith, c.if-event-ne12.false), omega arith)
 
 pub returns : goal.returns
 returns c =
