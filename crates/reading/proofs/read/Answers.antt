@@ -1,7 +1,7 @@
 -- `reading::read` meets its contract. The number found is the definition's; the table that is handed in has 32 records by its type.
 -- Assumes nothing.
 use mathlib.Core.Path.{◌≡◌, sym, ap, ◌∙◌}
-use lib.ListN.{length, length-map}
+use lib.ListN.{length}
 use Rattle.rules.specs.Laid.{held_ok}
 use Rattle.reading.proofs.Calls.{read_done, read_rules, read_head}
 use Rattle.reading.proofs.read.Goals as goal

@@ -1,6 +1,5 @@
 -- `reading::lists::get_messages` meets its contract. The invariant is `Filled`, the law of every loop that reads.
 -- Assumes nothing.
-use Prim.Native.Nat.{◌-◌}
 use mathlib.Core.Path.{ap, sym, ◌∙◌}
 use lib.ListN.{replicate}
 use native.Mathlib.Omega.{arith}
