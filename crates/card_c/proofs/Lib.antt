@@ -1,2 +1,1 @@
-mod Calls
 pub mod Unique

@@ -1,5 +1,5 @@
--- Steps for a walk over `&mut T`, `&mut [T]` and `&[T]` of plain records, and over local arrays of them. It names no crate's type or
--- function: every walk by hand cites it. Each step is made of the logic's own. Assumes nothing.
+-- Steps for a proof by hand over `&mut T`, `&mut [T]` and `&[T]` of plain records, and over local arrays of them. It names no crate's type or
+-- function. Each step is made of the logic's own. Assumes nothing.
 use mathlib.Core.Path.{◌≡◌, refl, sym, ap, subst}
 use Prim.Native.Nat.{ℕ, zero, suc, ◌+◌, ◌*◌, ◌<◌}
 use mathlib.Core.Bool.{Bool, true, false, not}
@@ -7,16 +7,17 @@ use mathlib.Core.List.{List, [], ◌∷◌}
 use lib.Dec.{T}
 use lib.ListN.{length, get_or, set, length-set}
 use seplogic.Ra.Ura.{Ura}
-use seplogic.Ra.TreeShare.{full_share}
-use mir.Syntax.{Ty, Lifetime, Opd as Operand, Body, skip, seq, assign, block, loop, cond, switch, exit, return, call}
+use base.Fraction.{full_share}
+use mir.Syntax.{Ty, Lifetime, Opd as Operand, Body, skip, seq, assign, block, loop, cond, switch, exit, return, unreachable, call, call_v, lend_static}
 use mir.Raw.{raw as raw_ty}
 use mir.Val.{Val, vptr, vbool}
 use base.Logic.{sep, ex, emp, via, comm∗, emp∗, id⊢}
-use base.Fml.{Lft, GName, Share, Fml, fsep, fat, fdies, flft, flent, fobs, fauth, fobor, fres, fshr_bor}
+use base.Fml.{Lft, GName, Share, Fml, Incl-refl, fsep, fat, fdies, flft, flent, fobs, fauth, fobor, fres}
 use prog.Wp.{Env, Calls, Loops, Wp, exits, after_seq}
 use types.Logic.{Logic, sem}
+use contract.BorrowLft.{⊑_static}
 use contract.Monad.{fact}
-use types.Kit.{Post, post, any_q, prop, runs, Item, ‵, raw, ◌⊛◌, some, later, mean, use1, use2, split, fpick, fpack, pick, await, Goal, frees, Soaks, Seq, Step, step, ◌$◌, move, drop, fsplit, fjoin, fsplit3, fjoin3, feq_i}
+use types.Kit.{Post, post, any_q, prop, runs, Item, ‵, raw, ◌⊛◌, some, later, mean, use1, use2, split, join, fpick, fpack, pick, await, Goal, frees, Soaks, Seq, Step, step, ◌$◌, move, drop, fsplit, fjoin, fsplit3, fjoin3, feq_i}
 use types.Run.{Opd, first, branches, skips, jumps, forget, free1}
 use types.Share.{arr_parts}
 use types.Tokens.{lft_new, lft_end, lent_back}
@@ -24,8 +25,10 @@ use types.Mut.{open_ref, close_ref}
 use types.SemTy.{Body as BorBody}
 use denote.RattleType.{RattleType}
 use denote.Shadow.{pure_i}
-use denote.Laws.{Is, shows, Tells, Makes, Copy}
-use denote.Memory.{mem, cell_at, shares, part_of, part_at}
+use denote.Laws.{Is, shows, Tells, Makes}
+use denote.Opens.{Opens, Shut}
+use denote.Shares.{Shares}
+use denote.Memory.{mem, cell_at, shares, part_of, part_at, hidden_shr}
 use denote.Ref.{MutRef, ShrRef}
 use denote.Slice.{slice_val, MutSlice, ShrSlice, heres, Room, mut_slice_at, coded_holeys}
 use denote.Array.{Array, array_vals, Array-Tells, Array-Makes}
@@ -54,7 +57,7 @@ pub was_true : (r t : Bool) → T (not (not r)) → r ≡ t → t ≡ true
 was_true true t h e = sym e
 was_true false t h e = absurd h
 
--- ---- what is left of a body after n statements: where a lemma of a walk begins inside a loop's turn, of which no `t-K` is made
+-- ---- what is left of a body after n statements: where a lemma begins inside a loop's turn, of which no `t-K` is made
 abbrev pub after : ℕ → Body → Body
 after zero b = b
 after (suc n) skip = skip
@@ -66,7 +69,10 @@ after (suc n) (cond c a b) = cond c a b
 after (suc n) (switch c arms) = switch c arms
 after (suc n) (exit k) = exit k
 after (suc n) return = return
+after (suc n) unreachable = unreachable
 after (suc n) (call f xs d) = call f xs d
+after (suc n) (call_v f xs ys d) = call_v f xs ys d
+after (suc n) (lend_static f xs d) = lend_static f xs d
 
 -- ---- where element i lies, for elements of s bytes from o
 abbrev pub place_of_lem : ℕ → ℕ → ℕ → ℕ
@@ -81,8 +87,8 @@ abbrev pub OpenRef : (R : RattleType) → Lft → Share → GName → ℕ → �
 OpenRef R κ q γ b o h = fsep (fobor κ q (BorBody (mem R) b o γ)) (fsep (fobs γ (R.coded.code h)) (fauth γ (R.coded.code h)))
 
 -- a `&T` that is looked into, at a share q' of its cell: what closes it, beside that share
-abbrev pub LookedRef : (R : RattleType) → Lft → Share → Share → GName → ℕ → ℕ → R.Denot → Fml
-LookedRef R κ q q' γ b o h = fsep (fobor κ q (part_at R q' h b o)) (fsep (fres γ (R.coded.code h)) (fshr_bor κ (λ s. part_at R s h b o)))
+abbrev pub LookedRef : {M : Type 1} {𝓤 : Ura M} (𝓛 : Logic 𝓤) (R : RattleType) → Lft → Share → Share → ℕ → ℕ → R.Denot → Item 𝓤
+LookedRef 𝓛 R κ q q' b o h = Shut 𝓛 κ q (part_at R q' h b o) ⊛ ‵ (hidden_shr R κ h b o)
 
 -- the same of a slice, whose elements lie open
 abbrev pub OpenSlice : (R : RattleType) → Lft → Share → GName → ℕ → ℕ → List R.Denot → Fml
@@ -138,31 +144,31 @@ module _ {M : Type 1} {𝓤 : Ura M} {𝓛 : Logic 𝓤} {K : Type 0} {Γ : List
         → Step K 𝓛 (‵ (fres γ (R.coded.code h)) ∷ Γ) G (‵ ((MutRef ℓ κ R).own_val (record { ref_ptr = (b, o); ghost_name = γ; now = h }) (vptr b o ∷ [])) ∷ Γ) G
     says_last t R ℓ {κ} {γ} h b o = step (λ s. fsplit3 t $ move t (1 ∷ []) $ use1 𝓛 (‵ (fres γ (R.coded.code h))) (𝓛.names.obs-res γ (R.coded.code h)) $ move t (1 ∷ 2 ∷ []) $ drop t $ drop t $ s)
 
-    -- what a `&T` owns and the token, for a share of the cell and what closes the borrow. T is Copy
-    pub looks_ref : K → Soaks G → (R : RattleType) (ℓ : Lifetime) (vals : R.Denot → List Val) → Tells R (Is R) vals → Copy 𝓛 R → {κ : Lft} {q : Share} {γ : GName} (h : R.Denot) (b o : ℕ)
-        → ((q' : Share) → Is R h (vals h) → Seq K 𝓛 (‵ (cell_at q' R.mir (vals h) b o) ∷ ‵ (LookedRef R κ q q' γ b o h) ∷ Γ) G)
+    -- what a `&T` owns and the token, for a share of the cell and what closes the borrow. T is one that a `&` to it opens
+    pub looks_ref : K → Soaks G → (R : RattleType) (ℓ : Lifetime) (vals : R.Denot → List Val) → Tells R (Is R) vals → Opens 𝓛 R → {κ : Lft} {q : Share} (h : R.Denot) (b o : ℕ)
+        → ((q' : Share) → Is R h (vals h) → Seq K 𝓛 (‵ (cell_at q' R.mir (vals h) b o) ∷ LookedRef 𝓛 R κ q q' b o h ∷ Γ) G)
         → Seq K 𝓛 (‵ ((ShrRef ℓ κ R).own_val (record { ref_ptr = (b, o); now = h }) (vptr b o ∷ [])) ∷ ‵ (flft κ q) ∷ Γ) G
-    looks_ref t z R ℓ vals tl cp h b o k =
-        fsplit3 t $ drop t $ move t (1 ∷ 2 ∷ []) $ looks t z R (Is R) (shows 𝓛 R) vals tl cp h b o (λ q' vs. spelt t R (Is R) (shows 𝓛 R) vals tl q' h vs b o $ move t (1 ∷ []) $ facts t R (Is R) (shows 𝓛 R) h (vals h) (λ p.
-        -- [the share of the cell; the open borrow of that share; the shared borrow; res]
-        move t (1 ∷ 3 ∷ 2 ∷ []) $ fjoin3 t $ move t (1 ∷ 0 ∷ []) $ k q' p))
+    looks_ref t z R ℓ vals tl op h b o k =
+        fsplit t $ drop t $ looks t z R op h b o (λ q' vs. spelt t R (Is R) (shows 𝓛 R) vals tl q' h vs b o $ move t (1 ∷ []) $ facts t R (Is R) (shows 𝓛 R) h (vals h) (λ p.
+        -- [the share of the cell; its way back; what the `&` holds]
+        move t (1 ∷ 2 ∷ []) $ join t $ move t (1 ∷ 0 ∷ []) $ k q' p))
 
     -- the other way
-    pub shuts_looked : K → Soaks G → (R : RattleType) (ℓ : Lifetime) → Makes 𝓛 R (Is R) → {κ : Lft} {q : Share} {γ : GName} (q' : Share) (h : R.Denot) (vs : List Val) (b o : ℕ) → Is R h vs
-        → Step K 𝓛 (‵ ((ShrRef ℓ κ R).own_val (record { ref_ptr = (b, o); now = h }) (vptr b o ∷ [])) ∷ ‵ (flft κ q) ∷ Γ) G (‵ (cell_at q' R.mir vs b o) ∷ ‵ (LookedRef R κ q q' γ b o h) ∷ Γ) G
-    shuts_looked t z R ℓ mk q' h vs b o is = step (λ s. move t (1 ∷ []) $ fsplit3 t $ move t (3 ∷ []) $ owned t R (Is R) mk h vs is $ move t (1 ∷ 0 ∷ []) $ shuts t z R q' h vs b o $
-        feq_i t (List Val) (vptr b o ∷ []) (vptr b o ∷ []) refl $ move t (0 ∷ 2 ∷ 3 ∷ []) $ fjoin3 t $ s)
+    pub shuts_looked : K → Soaks G → (R : RattleType) (ℓ : Lifetime) → Makes 𝓛 R (Is R) → {κ : Lft} {q : Share} (q' : Share) (h : R.Denot) (vs : List Val) (b o : ℕ) → Is R h vs
+        → Step K 𝓛 (‵ ((ShrRef ℓ κ R).own_val (record { ref_ptr = (b, o); now = h }) (vptr b o ∷ [])) ∷ ‵ (flft κ q) ∷ Γ) G (‵ (cell_at q' R.mir vs b o) ∷ LookedRef 𝓛 R κ q q' b o h ∷ Γ) G
+    shuts_looked t z R ℓ mk q' h vs b o is = step (λ s. move t (1 ∷ []) $ split t $ owned t R (Is R) mk h vs is $ move t (3 ∷ 0 ∷ 1 ∷ []) $ shuts t z R q' h vs b o $
+        move t (1 ∷ []) $ feq_i t (List Val) (vptr b o ∷ []) (vptr b o ∷ []) refl $ fjoin t $ s)
 
-    -- a `&mut T` is shared out, `&*r`, for a lifetime α that is made for it
-    pub shares_ref : K → Soaks G → (R : RattleType) (ℓ ℓ' : Lifetime) {κ : Lft} {q : Share} {γ : GName} (h : R.Denot) (b o : ℕ)
-        → ((α : ℕ) (γ₁ : GName) → Seq K 𝓛 (‵ ((ShrRef ℓ' (α ∷ []) R).own_val (record { ref_ptr = (b, o); ghost_name = γ₁; now = h }) (vptr b o ∷ [])) ∷ ‵ (flft (α ∷ []) full_share) ∷ ‵ (SharedRef R κ (α ∷ []) q γ b o h) ∷ Γ) G)
+    -- a `&mut T` is shared out, `&*r`, for a lifetime α that is made for it. T's values hold no `&mut`
+    pub shares_ref : K → Soaks G → (R : RattleType) (ℓ ℓ' : Lifetime) → Shares 𝓛 R [] → {κ : Lft} {q : Share} {γ : GName} (h : R.Denot) (b o : ℕ)
+        → ((α : ℕ) → Seq K 𝓛 (‵ ((ShrRef ℓ' (α ∷ []) R).own_val (record { ref_ptr = (b, o); now = h }) (vptr b o ∷ [])) ∷ ‵ (flft (α ∷ []) full_share) ∷ ‵ (SharedRef R κ (α ∷ []) q γ b o h) ∷ Γ) G)
         → Seq K 𝓛 (‵ ((MutRef ℓ κ R).own_val (record { ref_ptr = (b, o); ghost_name = γ; now = h }) (vptr b o ∷ [])) ∷ ‵ (flft κ q) ∷ Γ) G
-    shares_ref t z R ℓ ℓ' h b o k =
-        fsplit3 t $ drop t $ open_ref t z (mem R) {x = h} {b = b} {o = o} $ lft_new t z (λ α. move t (1 ∷ []) $
-        use1 𝓛 (later (some (λ (γ₁ : GName). ‵ ((ShrRef ℓ' (α ∷ []) R).own_val (record { ref_ptr = (b, o); ghost_name = γ₁; now = h }) (vptr b o ∷ [])) ⊛ ‵ (flent (α ∷ []) (part_at R full_share h b o)))))
-        (lends_shr 𝓛 R ℓ' (α ∷ []) full_share h b o) $ await t z $ pick t (λ γ₁. split t $
+    shares_ref t z R ℓ ℓ' sh h b o k =
+        fsplit3 t $ drop t $ open_ref t z (mem R) {x = h} {b = b} {o = o} $ lft_new t z (λ α. move t (1 ∷ 0 ∷ []) $
+        use2 𝓛 (later ((‵ ((ShrRef ℓ' (α ∷ []) R).own_val (record { ref_ptr = (b, o); now = h }) (vptr b o ∷ [])) ⊛ ‵ (flent (α ∷ []) (part_at R full_share h b o))) ⊛ ‵ (flft (α ∷ []) full_share)))
+        (lends_shr 𝓛 R ℓ' (α ∷ []) full_share h b o [] (sh h) ((α ∷ [], full_share) ∷ []) (⊑_static (α ∷ [])) (Incl-refl (α ∷ []))) $ await t z $ split t $ split t $
         -- [the `&T`; the lender's part; the new token; the open borrow; obs; auth]
-        move t (3 ∷ 4 ∷ 5 ∷ []) $ fjoin3 t $ move t (2 ∷ 0 ∷ []) $ fjoin t $ move t (1 ∷ 2 ∷ 0 ∷ []) $ k α γ₁))
+        move t (3 ∷ 4 ∷ 5 ∷ []) $ fjoin3 t $ move t (2 ∷ 0 ∷ []) $ fjoin t $ move t (1 ∷ 2 ∷ 0 ∷ []) $ k α)
 
     -- α is ended, and the `&mut T` is there again as it was
     pub unshares_ref : K → Soaks G → (R : RattleType) (ℓ : Lifetime) {κ : Lft} {q : Share} {γ : GName} {α : ℕ} (h : R.Denot) (b o : ℕ)
@@ -198,16 +204,16 @@ module _ {M : Type 1} {𝓤 : Ura M} {𝓛 : Logic 𝓤} {K : Type 0} {Γ : List
     shuts_elem t z R ℓ mk ys i y vs b o l room is = step (λ s. move t (1 ∷ []) $ fsplit t $ move t (2 ∷ []) $ owned t R (Is R) mk y vs is $ move t (1 ∷ 0 ∷ []) $
         elem_put t R full_share ys i y vs b o l $ shuts_row t z R ℓ ys (set ys i y) b o (length-set ys i y) room $ s)
 
-    -- a `&mut [T]` is shared out, `&*s`, for a lifetime α that is made for it
-    pub shares_slice : K → Soaks G → (R : RattleType) (ℓ ℓ' : Lifetime) {κ : Lft} {q : Share} {γ : GName} (ys : List R.Denot) (b o : ℕ) → Room R (length ys)
-        → ((α : ℕ) (γ₁ : GName) → Seq K 𝓛 (‵ ((ShrSlice ℓ' (α ∷ []) R).own_val (record { ref_ptr = (b, o); ghost_name = γ₁; now = ys }) (slice_val (b, o) (length ys) ∷ [])) ∷ ‵ (flft (α ∷ []) full_share) ∷ ‵ (SharedOut R κ (α ∷ []) q γ b o ys) ∷ Γ) G)
+    -- a `&mut [T]` is shared out, `&*s`, for a lifetime α that is made for it. T's values hold no `&mut`
+    pub shares_slice : K → Soaks G → (R : RattleType) (ℓ ℓ' : Lifetime) → Shares 𝓛 R [] → {κ : Lft} {q : Share} {γ : GName} (ys : List R.Denot) (b o : ℕ) → Room R (length ys)
+        → ((α : ℕ) → Seq K 𝓛 (‵ ((ShrSlice ℓ' (α ∷ []) R).own_val (record { ref_ptr = (b, o); now = ys }) (slice_val (b, o) (length ys) ∷ [])) ∷ ‵ (flft (α ∷ []) full_share) ∷ ‵ (SharedOut R κ (α ∷ []) q γ b o ys) ∷ Γ) G)
         → Seq K 𝓛 (‵ ((MutSlice ℓ κ R).own_val (record { ref_ptr = (b, o); ghost_name = γ; now = ys }) (slice_val (b, o) (length ys) ∷ [])) ∷ ‵ (flft κ q) ∷ Γ) G
-    shares_slice t z R ℓ ℓ' ys b o room k =
-        opens_row t z R ℓ ys b o $ feq_i t ℕ (length ys) (length ys) refl $ fjoin t $ lft_new t z (λ α. move t (1 ∷ []) $
-        use1 𝓛 (later (some (λ (γ₁ : GName). ‵ ((ShrSlice ℓ' (α ∷ []) R).own_val (record { ref_ptr = (b, o); ghost_name = γ₁; now = ys }) (slice_val (b, o) (length ys) ∷ [])) ⊛ ‵ (flent (α ∷ []) ((arr_parts (shares R) (length ys)).part full_share ys b o)))))
-        (lends_shr_slice 𝓛 R ℓ' (α ∷ []) full_share ys b o room) $ await t z $ pick t (λ γ₁. split t $
+    shares_slice t z R ℓ ℓ' sh ys b o room k =
+        opens_row t z R ℓ ys b o $ feq_i t ℕ (length ys) (length ys) refl $ fjoin t $ lft_new t z (λ α. move t (1 ∷ 0 ∷ []) $
+        use2 𝓛 (later ((‵ ((ShrSlice ℓ' (α ∷ []) R).own_val (record { ref_ptr = (b, o); now = ys }) (slice_val (b, o) (length ys) ∷ [])) ⊛ ‵ (flent (α ∷ []) ((arr_parts (shares R) (length ys)).part full_share ys b o))) ⊛ ‵ (flft (α ∷ []) full_share)))
+        (lends_shr_slice 𝓛 R ℓ' (α ∷ []) full_share ys b o room [] sh ((α ∷ [], full_share) ∷ []) (⊑_static (α ∷ [])) (Incl-refl (α ∷ []))) $ await t z $ split t $ split t $
         -- [the `&[T]`; the lender's part; the new token; what closes the slice]
-        move t (1 ∷ 3 ∷ []) $ fjoin t $ move t (1 ∷ 2 ∷ 0 ∷ []) $ k α γ₁))
+        move t (1 ∷ 3 ∷ []) $ fjoin t $ move t (1 ∷ 2 ∷ 0 ∷ []) $ k α)
 
     -- α is ended, and the `&mut [T]` is there again as it was
     pub unshares_slice : K → Soaks G → (R : RattleType) (ℓ : Lifetime) {κ : Lft} {q : Share} {γ : GName} {α : ℕ} (ys : List R.Denot) (b o : ℕ) → Room R (length ys)

@@ -1,5 +1,2 @@
-pub mod Structs
-mod Calls
-pub mod Slices
 pub mod Whole
 pub mod Unique

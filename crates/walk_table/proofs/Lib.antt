@@ -1,4 +1,1 @@
-pub mod Structs
-mod Calls
-pub mod Slices
 pub mod Whole

@@ -2,10 +2,7 @@
 use mathlib.Core.Path.{◌≡◌}
 use lib.Dec.{eqb}
 use mathlib.Core.Bool.{false}
-use mathlib.Core.List.{[], ◌∷◌}
-use mathlib.Core.Logic.{inl, inr}
 use native.Mathlib.Omega.{arith}
-use types.Run.{OneOf}
 use borrow.Author.Tests.{ne_eqb}
 use Rattle.purse.specs.declared.CardEvent.TheVariants.{Deliver}
 use Rattle.card_c.specs.declared.Order.{Order}
@@ -15,10 +12,6 @@ use Rattle.card_c.proofs.told.Goals as goal
 delivers : (o : Order) → eqb o.kind 1 ≡ false → eqb o.kind 2 ≡ false → eqb o.kind 4 ≡ false → eqb o.kind 6 ≡ false → eqb o.kind 8 ≡ false → Deliver o.message ≡ told_of o
 unfolding told_of
 delivers o a b c d e = simp (a, b, c, d, e)
-
-numbered : (o : Order) → OneOf (0 ∷ 3 ∷ 5 ∷ 7 ∷ []) o.kind → Deliver o.message ≡ told_of o
-unfolding told_of
-numbered o h = elim h [ inl a ↦ simp a | inr b ↦ elim b [ inl a ↦ simp a | inr b ↦ elim b [ inl a ↦ simp a | inr b ↦ simp b ] ] ]
 
 pub returns-in-1 : goal.returns-in-1
 unfolding told_of
@@ -41,9 +34,11 @@ unfolding told_of
 returns-in-8 c = simp c.in-8.is
 
 pub returns-in-0 : goal.returns-in-0
-returns-in-0 c = numbered c.args.order c.in-0.is
+returns-in-0 c =
+    let k = c.args.order.kind in
+    delivers c.args.order (ne_eqb k 1 (omega arith)) (ne_eqb k 2 (omega arith)) (ne_eqb k 4 (omega arith)) (ne_eqb k 6 (omega arith)) (ne_eqb k 8 (omega arith))
 
 pub returns-in-0-2 : goal.returns-in-0-2
 returns-in-0-2 c =
-    let o : Order = c.args.order in
-    delivers o (ne_eqb o.kind 1 (omega arith)) (ne_eqb o.kind 2 (omega arith)) (ne_eqb o.kind 4 (omega arith)) (ne_eqb o.kind 6 (omega arith)) (ne_eqb o.kind 8 (omega arith))
+    let k = c.args.order.kind in
+    delivers c.args.order (ne_eqb k 1 (omega arith)) (ne_eqb k 2 (omega arith)) (ne_eqb k 4 (omega arith)) (ne_eqb k 6 (omega arith)) (ne_eqb k 8 (omega arith))
