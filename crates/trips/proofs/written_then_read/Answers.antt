@@ -1,7 +1,7 @@
 -- `trips::written_then_read` meets its contract. The first bytes of the buffer, as many as writing says, are the image, and it is read back.
 -- Assumes nothing.
 use mathlib.Core.Path.{◌≡◌, refl, sym}
-use lib.ListN.{length, length-map}
+use lib.ListN.{length}
 use lib.Seq.{length-take-le}
 use Rattle.trips.proofs.Back.{back, not_back, within}
 use borrow.Author.Rules.{rules}
@@ -15,16 +15,16 @@ slice_bounds-read-end c =
 
 pub slice_bounds-read-end-then-answer-eq0 : goal.slice_bounds-read-end-then-answer-eq0
 slice_bounds-read-end-then-answer-eq0 c =
-    let args = c.before.before.before.before.before.before.before.before.args in
-    let room = within args.held args.out.now c.before.before.before.before.write.ensures.0 in
+    let args = c.args in
+    let room = within args.held args.out.now c.write-w.ensures.0 in
     sym (length-take-le _ _ (search rules))
 
 pub returns-then-answer-eq0 : goal.returns-then-answer-eq0
 returns-then-answer-eq0 c =
-    let args = start.args in
-    let lent : length args.other.table ≡ 32 = simp length-map at start.well-formed.1.0.1.1.0.1.0.1 in
-    let wrote = c.before.before.before.before.before.write.ensures in
-    (back args.other args.held args.out.now lent c.before.before.before.before.before.before.before.held-fits.ensures wrote.0 wrote.1 c.before.before.if1.true c.read.ensures, wrote.1)
+    let args = c.args in
+    let lent : length args.other.table ≡ 32 = c.well_formed.1.0.1.1.0.1.0.1 in
+    let wrote = c.write-w.ensures in
+    (back args.other args.held args.out.now lent c.held_fits.ensures wrote.0 wrote.1 c.if-answer-eq0.true c.read.ensures, wrote.1)
 
 pub returns-else-answer-eq0 : goal.returns-else-answer-eq0
 returns-else-answer-eq0 c =

@@ -1,6 +1,5 @@
 -- `trips::fits::bytes_fit` meets its contract. The fact is gathered byte by byte.
 -- Assumes nothing.
-use Prim.Native.Nat.{◌-◌}
 use native.Mathlib.Omega.{arith}
 use Rattle.trips.proofs.Alls.{first_more, first-all}
 use Rattle.trips.proofs.fits.bytes_fit.Goals as goal

@@ -1,6 +1,5 @@
 -- `trips::fits::entries_fit` meets its contract. The fact is gathered place by place.
 -- Assumes nothing.
-use Prim.Native.Nat.{◌-◌}
 use mathlib.Core.Path.{◌≡◌}
 use lib.ListN.{length, take}
 use lib.Seq.{take_all}
