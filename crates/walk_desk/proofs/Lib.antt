@@ -1,3 +1,2 @@
-pub mod Calls
-pub mod Structs
 pub mod Unique
+mod Written
