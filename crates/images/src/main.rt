@@ -8,8 +8,12 @@ ghost use Rattle.std.specs.Prelude.{◌≤◌, length};
 
 use bigendian::count_at;
 use desk::{Desk, Held};
-use libc::{STDIN_FILENO, STDOUT_FILENO};
 use purse::Purse;
+use std::io;
+use std::io::Read;
+
+// As many bytes of input as are looked at.
+const INPUT: u64 = 65536;
 
 // How many readings answered 0, 2, 16, 17 and 18.
 #[derive(Clone, Copy)]
@@ -19,12 +23,6 @@ struct Tally {
     length: u32,
     mark: u32,
     version: u32,
-}
-
-// A number and what stands behind it.
-fn number(n: u32, end: &[u8]) {
-    io::print_decimal(STDOUT_FILENO, n as u64);
-    io::write_all(STDOUT_FILENO, end);
 }
 
 // A bench of no purses, which no rule allows.
@@ -39,62 +37,47 @@ fn none() -> Held {
 }
 
 // Whether out begins with the bytes, and they are so many.
-fn begins(out: &[u8], bytes: &[u8], length: usize) -> u32 {
-    if bytes.len() != length {
-        return 0;
-    }
-    if out.len() < length {
-        return 0;
-    }
-    let mut i: usize = 0;
-    while i < length {
-        if out[i] != bytes[i] {
-            return 0;
-        }
-        i += 1;
-    }
-    1
+fn begins(out: &[u8], bytes: &[u8], length: usize) -> bool {
+    bytes.len() == length && out.starts_with(bytes)
 }
 
 // Write what is held, into so many places, and compare.
-fn shown(held: Held, out: &mut [u8], bytes: &[u8]) {
+fn shown(rt: &impl Print, held: Held, out: &mut [u8], bytes: &[u8]) -> io::Result<()> {
     let w = image::write(held, out);
     let answer = w.answer;
     let length = w.length;
-    number(answer as u32, b" ");
-    io::print_decimal(STDOUT_FILENO, length as u64);
-    io::write_all(STDOUT_FILENO, b" ");
-    number(begins(out, bytes, length), b"\n");
+    let same = u8::from(begins(out, bytes, length));
+    println!(rt; "{answer} {length} {same}")
 }
 
 // Read an image over what is held, and write what is held then.
-fn tried(held: Held, bytes: &[u8]) -> Held {
+fn tried(rt: &impl Print, held: Held, bytes: &[u8]) -> io::Result<Held> {
     let r = image::read(held, bytes);
     let answer = r.answer;
     let next = r.held;
-    let mut space = io::large_buffer();
-    number(answer as u32, b" ");
-    shown(next, &mut space, bytes);
-    next
+    let mut space = [0u8; 65536];
+    print!(rt; "{answer} ")?;
+    shown(rt, next, &mut space, bytes)?;
+    Ok(next)
 }
 
 fn counted(t: Tally, answer: u8) -> Tally {
     let mut next = t;
     match answer {
         0 => {
-            next.done = std::num::wrapping_add_u32(t.done, 1);
+            next.done = t.done.wrapping_add(1);
         }
         2 => {
-            next.rules = std::num::wrapping_add_u32(t.rules, 1);
+            next.rules = t.rules.wrapping_add(1);
         }
         16 => {
-            next.length = std::num::wrapping_add_u32(t.length, 1);
+            next.length = t.length.wrapping_add(1);
         }
         17 => {
-            next.mark = std::num::wrapping_add_u32(t.mark, 1);
+            next.mark = t.mark.wrapping_add(1);
         }
         18 => {
-            next.version = std::num::wrapping_add_u32(t.version, 1);
+            next.version = t.version.wrapping_add(1);
         }
         _ => {}
     }
@@ -102,40 +85,41 @@ fn counted(t: Tally, answer: u8) -> Tally {
 }
 
 // The image with the byte at a place changed to each other value, read.
-fn changed(held: Held, bytes: &mut [u8], at: usize) {
-    if at < bytes.len() {
-        let was = bytes[at];
-        let mut t = Tally {
-            done: 0,
-            rules: 0,
-            length: 0,
-            mark: 0,
-            version: 0,
-        };
-        let mut step: u8 = 0;
-        while step < 255 {
-            step += 1;
-            bytes[at] = std::num::wrapping_add_u8(was, step);
-            let r = image::read(held, bytes);
-            let answer = r.answer;
-            t = counted(t, answer);
-        }
-        bytes[at] = was;
-        number(t.done, b" ");
-        number(t.rules, b" ");
-        number(t.length, b" ");
-        number(t.mark, b" ");
-        number(t.version, b"\n");
+fn changed(rt: &impl Print, held: Held, bytes: &mut [u8], at: usize) -> io::Result<()> {
+    if bytes.len() <= at {
+        return Ok(());
     }
+    let was = bytes[at];
+    let mut t = Tally {
+        done: 0,
+        rules: 0,
+        length: 0,
+        mark: 0,
+        version: 0,
+    };
+    for step in 1..=u8::MAX {
+        bytes[at] = was.wrapping_add(step);
+        let r = image::read(held, bytes);
+        let answer = r.answer;
+        t = counted(t, answer);
+    }
+    bytes[at] = was;
+    let Tally {
+        done,
+        rules,
+        length,
+        mark,
+        version,
+    } = t;
+    println!(rt; "{done} {rules} {length} {mark} {version}")
 }
 
 // Each byte of an image.
-fn each_changed(held: Held, bytes: &mut [u8]) {
-    let mut i: usize = 0;
-    while i < bytes.len() {
-        changed(held, bytes, i);
-        i += 1;
+fn each_changed(rt: &impl Print, held: Held, bytes: &mut [u8]) -> io::Result<()> {
+    for i in 0..bytes.len() {
+        changed(rt, held, bytes, i)?;
     }
+    Ok(())
 }
 
 // Where the image ends whose length stands at a place; the place itself where no whole image follows.
@@ -155,26 +139,25 @@ fn end_at(input: &[u8], at: usize) -> usize
 }
 
 // The images one after the other, and the last one changed.
-fn all(input: &mut [u8]) {
+fn all(rt: &impl Print, input: &mut [u8]) -> io::Result<()> {
     let mut held = none();
     let mut short = [0u8; 100];
-    shown(held, &mut short, b"");
+    shown(rt, held, &mut short, b"")?;
     let mut from: usize = 0;
     let mut at: usize = 0;
     let mut end = end_at(input, 0);
     while end - at >= 2 {
         from = at + 2;
-        held = tried(held, &input[from..end]);
+        held = tried(rt, held, &input[from..end])?;
         at = end;
         end = end_at(input, at);
     }
-    shown(held, &mut short, b"");
-    each_changed(held, &mut input[from..at]);
+    shown(rt, held, &mut short, b"")?;
+    each_changed(rt, held, &mut input[from..at])
 }
 
-fn main() {
-    let mut space = io::large_buffer();
-    let input: &mut [u8] = &mut space;
-    let n = io::read_full(STDIN_FILENO, input);
-    all(&mut input[..n]);
+fn main(rt: HostRuntime) -> io::Result<()> {
+    let mut input = Vec::new(rt.alloc());
+    rt.stdin().take(INPUT).read_to_end(&mut input)?;
+    all(&rt, &mut input)
 }

@@ -4,74 +4,81 @@
 
 mod states; // states.rt: a whole state as bytes
 
-ghost use Rattle.std.specs.Prelude.{◌≤◌, ◌<◌, length, ◌≡◌};
+ghost use Rattle.std.specs.Prelude.{◌≤◌, ◌<◌, length, ◌≡◌, IfOk, OnOk};
 
 use crate::states::STATE_WIDTH;
 use bigendian::{count_at, number_at, put_byte, put_count, put_number, wide};
 use desk::Held;
 use layout::widths::{BYTE_WIDTH, DETAILS_WIDTH, MESSAGE_WIDTH, NUMBER_WIDTH, PURSE_WIDTH};
-use libc::{STDIN_FILENO, STDOUT_FILENO};
 use parts::{get_message, get_purse, put_details, put_message, put_purse};
 use purse::{Amount, CardEvent, Message, Name, Seq};
+use std::io;
+use std::io::{ErrorKind, Read};
 
-fn write_byte(v: u8) -> bool {
-    let one = [v];
-    io::write_all(STDOUT_FILENO, &one)
+// Why no more requests are answered: one is none or cut short, or a read or a write failed.
+#[derive(Drop)]
+enum End {
+    NoRequest,
+    Failed(io::Error),
 }
 
-fn write_state(held: Held) -> bool {
+impl From<io::Error> for End {
+    fn from(why: io::Error) -> End {
+        match why.kind() {
+            ErrorKind::UnexpectedEof => End::NoRequest,
+            _ => End::Failed(why),
+        }
+    }
+}
+
+fn write_state(rt: &impl Print, held: Held) -> Result<(), End> {
     let mut bytes = [0u8; STATE_WIDTH];
     states::put_state(&mut bytes, held);
-    io::write_all(STDOUT_FILENO, &bytes)
+    rt.write_all(&bytes)?;
+    Ok(())
 }
 
 // An answer and the state after it.
-fn reply(answer: u8, held: Held) -> bool {
-    let is_first = write_byte(answer);
-    let is_rest = write_state(held);
-    is_first & is_rest
+fn reply(rt: &impl Print, answer: u8, held: Held) -> Result<(), End> {
+    rt.write_all(&[answer])?;
+    write_state(rt, held)
 }
 
-// So many bytes of the input at the start of a buffer that has room for them; false where it has not, or the input ends.
-fn fill(bytes: &mut [u8], n: usize) -> bool
-    ensures { length bytes.new ≡ length bytes.old }
+// So many bytes of the input at the start of a buffer, if it has room for them.
+fn fill(rt: &HostRuntime, bytes: &mut [u8], n: usize) -> Result<(), End>
+    ensures room { OnOk result (n ≤ length bytes.new) }
+    ensures bytes_len_unchanged { length bytes.new ≡ length bytes.old }
 {
     if bytes.len() < n {
-        return false;
+        return Err(End::NoRequest);
     }
-    io::read_full(STDIN_FILENO, &mut bytes[..n]) == n
+    rt.stdin().read_exact(&mut bytes[..n])?;
+    Ok(())
 }
 
-// A length of one byte, or more than any where the input ends.
-fn size1() -> usize {
+// A length of one byte.
+fn size1(rt: &HostRuntime) -> Result<usize, End>
+    ensures { IfOk result (λ n. n < 256) }
+{
     let mut one = [0u8; 1];
-    if io::read_full(STDIN_FILENO, &mut one) != 1 {
-        return 70000;
-    }
-    wide(one[0]) as usize
+    rt.stdin().read_exact(&mut one)?;
+    Ok(wide(one[0]) as usize)
 }
 
-// A length of two bytes, likewise.
-fn size2() -> usize {
+// A length of two bytes.
+fn size2(rt: &HostRuntime) -> Result<usize, End> {
     let mut two = [0u8; 2];
-    if io::read_full(STDIN_FILENO, &mut two) != 2 {
-        return 70000;
-    }
-    count_at(&two, 0) as usize
+    rt.stdin().read_exact(&mut two)?;
+    Ok(count_at(&two, 0) as usize)
 }
 
 // An event: length 1, that many bytes.
-fn event(held: Held, bytes: &mut [u8]) -> bool {
-    let n = size1();
-    if bytes.len() < n {
-        return false;
-    }
-    if !fill(bytes, n) {
-        return false;
-    }
+fn event(rt: &HostRuntime, held: Held, bytes: &mut [u8]) -> Result<(), End> {
+    let n = size1(rt)?;
+    fill(rt, bytes, n)?;
     let a = bench::event(held, &bytes[..n]);
     let after = a.held;
-    reply(a.answer, after)
+    reply(rt, a.answer, after)
 }
 
 // The numbers of so many balances.
@@ -79,71 +86,60 @@ fn balances(bytes: &[u8], n: usize) -> [u32; 256]
     requires { n ≤ 255 }
 {
     let mut all = [0u32; 256];
-    let mut i: usize = 0;
-    while i < n {
+    for i in 0..n {
         all[i] = number_at(bytes, NUMBER_WIDTH * i);
-        i += 1;
     }
     all
 }
 
 // An opening: number of balances 1, 4 bytes each.
-fn opening(held: Held, bytes: &mut [u8]) -> bool {
-    let n = size1();
-    if 255 < n {
-        return false;
-    }
-    if !fill(bytes, NUMBER_WIDTH * n) {
-        return false;
-    }
+fn opening(rt: &HostRuntime, held: Held, bytes: &mut [u8]) -> Result<(), End> {
+    let n = size1(rt)?;
+    fill(rt, bytes, NUMBER_WIDTH * n)?;
     let all = balances(bytes, n);
     let a = opens::opening(held, &all[..n]);
     let after = a.held;
-    reply(a.answer, after)
+    reply(rt, a.answer, after)
 }
 
 // A read: length 2, image bytes.
-fn read(held: Held, bytes: &mut [u8]) -> bool {
-    let n = size2();
-    if bytes.len() < n {
-        return false;
-    }
-    if !fill(bytes, n) {
-        return false;
-    }
+fn read(rt: &HostRuntime, held: Held, bytes: &mut [u8]) -> Result<(), End> {
+    let n = size2(rt)?;
+    fill(rt, bytes, n)?;
     let a = image::read(held, &bytes[..n]);
     let after = a.held;
-    reply(a.answer, after)
+    reply(rt, a.answer, after)
 }
 
 // A write into a buffer of so many bytes, which the caller has filled with AA hex.
-fn write_into(held: Held, bytes: &mut [u8]) -> bool {
+fn write_into(rt: &impl Print, held: Held, bytes: &mut [u8]) -> Result<(), End> {
     let w = image::write(held, bytes);
     let answer = w.answer;
     let short = (w.length % 65536) as u16;
     let mut head = [answer, 0, 0];
     put_count(&mut head, BYTE_WIDTH, short);
-    let is_first = io::write_all(STDOUT_FILENO, &head);
-    let is_rest = io::write_all(STDOUT_FILENO, bytes);
-    is_first & is_rest
+    rt.write_all(&head)?;
+    rt.write_all(bytes)?;
+    Ok(())
 }
 
 // A write: buffer length 2.
-fn write(held: Held, bytes: &mut [u8]) -> bool {
-    let n = size2();
+fn write(rt: &HostRuntime, held: Held, bytes: &mut [u8]) -> Result<(), End> {
+    let n = size2(rt)?;
     if bytes.len() < n {
-        return false;
+        return Err(End::NoRequest);
     }
-    write_into(held, &mut bytes[..n])
+    write_into(rt, held, &mut bytes[..n])
 }
 
-fn claims(held: Held) -> bool {
+fn claims(rt: &impl Print, held: Held) -> Result<(), End> {
     let f = claims::claims(held);
     let answer = f.answer;
     let mut out = [answer, 0, 0, 0, 0];
     let figure = f.claims;
     put_number(&mut out, BYTE_WIDTH, figure);
-    io::write_all(STDOUT_FILENO, &out)
+    rt.write_all(&out)?;
+    Ok(())
 }
 
 // Where the parts of a card's request stand: own name 1, record, kind 1, counterparty 1, number 4, amount 4, message.
@@ -181,15 +177,13 @@ fn told(kind: u8, other: Name, seq: Seq, amount: Amount, m: Message) -> CardEven
 }
 
 // A card's step.
-fn card_step() -> bool {
+fn card_step(rt: &HostRuntime) -> Result<(), End> {
     let mut bytes = [0u8; CARD_WIDTH];
-    if io::read_full(STDIN_FILENO, &mut bytes) != CARD_WIDTH {
-        return false;
-    }
+    rt.stdin().read_exact(&mut bytes)?;
     let kind = bytes[KIND];
     let is_known = (1 <= kind) & (kind <= 8) & !(kind == 5) & !(kind == 7);
     if !is_known {
-        return false;
+        return Err(End::NoRequest);
     }
     let own = Name(bytes[0]);
     let p = get_purse(&bytes, RECORD);
@@ -207,46 +201,45 @@ fn card_step() -> bool {
     put_purse(&mut out, RECORD, q);
     put_message(&mut out, SENT, m);
     put_details(&mut out, HANDED, d);
-    io::write_all(STDOUT_FILENO, &out)
+    rt.write_all(&out)?;
+    Ok(())
 }
 
 // A request over a state.
-fn over_state(letter: u8) -> bool {
+fn over_state(rt: &HostRuntime, letter: u8) -> Result<(), End> {
     let mut bytes = [0u8; STATE_WIDTH];
-    if io::read_full(STDIN_FILENO, &mut bytes) != STATE_WIDTH {
-        return false;
-    }
+    rt.stdin().read_exact(&mut bytes)?;
     let held = states::state(&bytes);
     let mut space = [0xAAu8; 65535];
     match letter {
-        69 => event(held, &mut space),
-        79 => opening(held, &mut space),
-        82 => read(held, &mut space),
-        87 => write(held, &mut space),
-        _ => claims(held),
+        b'E' => event(rt, held, &mut space),
+        b'O' => opening(rt, held, &mut space),
+        b'R' => read(rt, held, &mut space),
+        b'W' => write(rt, held, &mut space),
+        _ => claims(rt, held),
     }
 }
 
-// One request and its reply; false where the program is to end.
-fn request() -> bool {
+// One request and its reply.
+fn request(rt: &HostRuntime) -> Result<(), End> {
     let mut letter = [0u8; 1];
-    if io::read_full(STDIN_FILENO, &mut letter) != 1 {
-        return false;
-    }
+    rt.stdin().read_exact(&mut letter)?;
     let l = letter[0];
     match l {
-        67 | 69 | 79 | 82 | 87 => over_state(l),
-        80 => card_step(),
-        _ => false,
+        b'C' | b'E' | b'O' | b'R' | b'W' => over_state(rt, l),
+        b'P' => card_step(rt),
+        _ => Err(End::NoRequest),
     }
 }
 
-// A proved loop has to end, and nothing says that an input does: the loop counts its turns down from a number that no run uses up.
-fn main() {
-    let mut turns = u64::MAX;
-    let mut more = true;
-    while turns > 0 && more {
-        more = request();
-        turns -= 1;
+// A proved loop has to end, and nothing says that an input does: it has a number of turns that no run uses up.
+fn main(rt: HostRuntime) -> io::Result<()> {
+    for _ in 0..u64::MAX {
+        match request(&rt) {
+            Ok(()) => {}
+            Err(End::NoRequest) => break,
+            Err(End::Failed(why)) => return Err(why),
+        }
     }
+    Ok(())
 }

@@ -1,135 +1,75 @@
-// The bench program's run: an input read from one descriptor in pieces, its listing written to another. It only moves bytes: what they say is
-// the crate listing's, what the bench does the crate bench's. Memory does not grow with the input.
+// The bench program's run: an input read in pieces, its listing written as it comes. It only moves bytes: what they say is the crate
+// listing's, what the bench does the crate bench's. Memory does not grow with the input.
 //
-// A read or a write that fails is told on standard error, and the listing ends there, without its foot: the kit's programs have no exit
-// status, so whoever runs one sees by the message, and by the missing last line, that the listing is not whole.
+// A read or a write that fails ends the listing there, without its foot.
 #![tactic(auto)]
 
-ghost use Rattle.std.specs.Prelude.{◌≤◌, length, take, ◌≡◌};
+mod failure; // failure.rt: why a listing is not whole, told on standard error
+
+ghost use Rattle.std.specs.Prelude.{◌≤◌, length, take, ◌≡◌, IfOk};
 ghost use Rattle.rules.specs.Laid.{held_opening};
 ghost use Rattle.listing.specs.Whole.{unopened};
 
 use desk::{Answered, Desk, Held};
+pub use failure::{Failure, tell};
 use purse::Purse;
+use std::io::{Error, ErrorKind, Read, Write};
+use std::thread;
 
-// What one call moved, whether another is due, and whether it failed.
-#[derive(Clone, Copy)]
-struct Moved {
-    count: usize,
-    more: bool,
-    is_failed: bool,
-}
-
-// How many bytes came, and whether that is so because a read failed.
-#[derive(Clone, Copy)]
-struct Filled {
-    count: usize,
-    is_failed: bool,
-}
-
-// The opening's answer and bench, unless its bytes could not be read.
-#[derive(Clone, Copy)]
-struct Started {
-    opened: Answered,
-    is_failed: bool,
-}
-
-// Where a run stands: what the bench holds, the next event's number, whether there may be more input, and whether the run had to stop.
+// Where a run stands: what the bench holds, the next event's number, and whether there may be more input.
 #[derive(Clone, Copy)]
 struct Going {
     held: Held,
     next: u64,
     more: bool,
-    is_failed: bool,
 }
 
 // Whether the call that has just failed may go through another time: nothing was ready, or a signal came. There is nothing to wait by, so
-// others get the processor first.
-fn is_put_off() -> bool {
-    let error = os::errno();
-    if (error == libc::EAGAIN) | (error == libc::EINTR) {
-        libc::sched_yield();
-        return true;
-    }
-    false
-}
-
-// What a call on those bytes answered: a negative number is a failure, 0 that nothing can be moved any more.
-fn told(answer: isize, bytes: &[u8]) -> Moved
-    ensures { result.«count» ≤ length bytes.now }
-{
-    if answer < 0 {
-        let more = is_put_off();
-        return Moved {
-            count: 0,
-            more: more,
-            is_failed: !more,
-        };
-    }
-    let count = io::count(answer, bytes);
-    Moved {
-        count: count,
-        more: count > 0,
-        is_failed: false,
+// others get the processor first. Any other failure stays one.
+fn put_off(error: Error) -> Result<(), Error> {
+    match error.kind() {
+        ErrorKind::Interrupted | ErrorKind::WouldBlock => {
+            thread::yield_now();
+            Ok(())
+        }
+        _ => Err(error),
     }
 }
 
-fn read_some(from: i32, bytes: &mut [u8]) -> Moved
-    ensures count_in_bounds { result.«count» ≤ length bytes.old }
+// Reads until the bytes are full or the input ends, and returns how many came. A proved loop has to end, and nothing says that an input
+// does: it has a number of turns that no run uses up.
+fn fill<R: Read>(from: &mut R, bytes: &mut [u8]) -> Result<usize, Failure>
+    ensures count_in_bounds { IfOk result (λ n. n ≤ length bytes.new) }
     ensures bytes_len_unchanged { length bytes.new ≡ length bytes.old }
 {
-    let answer = libc::read(from, bytes);
-    told(answer, bytes)
+    let mut count = 0;
+    for _ in 0..u64::MAX {
+        if count == bytes.len() {
+            break;
+        }
+        match from.read(&mut bytes[count..]) {
+            Ok(0) => break,
+            Ok(came) => count += came,
+            Err(e) => put_off(e).map_err(Failure::Input)?,
+        }
+    }
+    Ok(count)
 }
 
-// Reads until the bytes are full or the input ends; a failure is told. The loop counts its turns down as `events` does.
-fn fill(from: i32, bytes: &mut [u8]) -> Filled
-    ensures count_in_bounds { result.«count» ≤ length bytes.new }
-    ensures bytes_len_unchanged { length bytes.new ≡ length bytes.old }
-{
-    let mut count: usize = 0;
-    let mut more = bytes.len() > 0;
-    let mut is_failed = false;
-    let mut turns = u64::MAX;
-    while turns > 0 && more {
-        let came = read_some(from, &mut bytes[count..]);
-        count += came.count;
-        more = came.more & (count < bytes.len());
-        is_failed = came.is_failed;
-        turns -= 1;
+// Writes all the bytes.
+fn write<W: Write>(to: &mut W, bytes: &[u8]) -> Result<(), Failure> {
+    let mut count = 0;
+    for _ in 0..u64::MAX {
+        if count == bytes.len() {
+            return Ok(());
+        }
+        match to.write(&bytes[count..]) {
+            Ok(0) => break,
+            Ok(went) => count += went,
+            Err(e) => put_off(e).map_err(Failure::Listing)?,
+        }
     }
-    if is_failed {
-        os::fail(b"prs: the input cannot be read");
-    }
-    Filled {
-        count: count,
-        is_failed: is_failed,
-    }
-}
-
-fn write_some(to: i32, bytes: &[u8]) -> Moved
-    ensures { result.«count» ≤ length bytes.now }
-{
-    let answer = libc::write(to, bytes);
-    told(answer, bytes)
-}
-
-// Writes all the bytes, or tells why not and answers false.
-fn write(to: i32, bytes: &[u8]) -> bool {
-    let mut count: usize = 0;
-    let mut more = bytes.len() > 0;
-    let mut turns = u64::MAX;
-    while turns > 0 && more {
-        let went = write_some(to, &bytes[count..]);
-        count += went.count;
-        more = went.more & (count < bytes.len());
-        turns -= 1;
-    }
-    if count < bytes.len() {
-        os::fail(b"prs: the listing cannot be written");
-        return false;
-    }
-    true
+    Err(Failure::Listing(Error::from(ErrorKind::WriteZero)))
 }
 
 // A bench before its opening, which ignores what it held.
@@ -146,20 +86,17 @@ fn nothing() -> Held
 }
 
 // The opening bytes at the start of the buffer: the purse count, and as many balance bytes as follow it.
-fn read_opening(from: i32, bytes: &mut [u8]) -> Filled
+fn read_opening<R: Read>(from: &mut R, bytes: &mut [u8]) -> Result<usize, Failure>
     requires { 129 ≤ length bytes.old }
-    ensures { result.«count» ≤ length bytes.new }
+    ensures { IfOk result (λ n. n ≤ length bytes.new) }
 {
-    let first = fill(from, &mut bytes[..1]);
-    if first.count == 0 {
-        return first;
+    let first = fill(from, &mut bytes[..1])?;
+    if first == 0 {
+        return Ok(0);
     }
     let end = 1 + listing::balance_bytes(bytes[0]);
-    let rest = fill(from, &mut bytes[1..end]);
-    Filled {
-        count: 1 + rest.count,
-        is_failed: rest.is_failed,
-    }
+    let rest = fill(from, &mut bytes[1..end])?;
+    Ok(1 + rest)
 }
 
 // The bench that the balances open, or the number by which opening refuses.
@@ -172,120 +109,92 @@ fn open(balances: [u32; 32], count: usize) -> Answered
 
 // A piece of whole events, the last piece of the input with an event cut short at its end. Where a read fails no event is cut short by the
 // input's end, so nothing of that piece is listed.
-fn piece(from: i32, to: i32, held: Held, next: u64) -> Going {
+fn piece<R: Read, W: Write>(
+    from: &mut R,
+    to: &mut W,
+    held: Held,
+    next: u64,
+) -> Result<Going, Failure> {
     let mut input = [0u8; 6144];
     let mut lines = [0u8; 21504];
-    let filled = fill(from, &mut input);
-    let got = filled.count;
-    if filled.is_failed {
-        return Going {
-            held: held,
-            next: next,
-            more: false,
-            is_failed: true,
-        };
-    }
+    let got = fill(from, &mut input)?;
     let listed = listing::piece(held, next, &input[..got], &mut lines);
     let length = listed.length;
-    let is_written = write(to, &lines[..length]);
+    write(to, &lines[..length])?;
     let after = listed.held;
     if next <= 1_000_000_000_000_000_000 {
-        Going {
+        Ok(Going {
             held: after,
             next: next + listed.events as u64,
-            more: is_written & (got == 6144),
-            is_failed: !is_written,
-        }
+            more: got == 6144,
+        })
     } else {
-        Going {
+        Ok(Going {
             held: after,
             next: next,
             more: false,
-            is_failed: !is_written,
+        })
+    }
+}
+
+// Event lines as they come, and what the bench then holds. The loop has turns as `fill` has.
+fn events<R: Read, W: Write>(from: &mut R, to: &mut W, opened: Held) -> Result<Held, Failure> {
+    let mut going = Going {
+        held: opened,
+        next: 1,
+        more: true,
+    };
+    for _ in 0..u64::MAX {
+        if !going.more {
+            break;
         }
+        going = piece(from, to, going.held, going.next)?;
     }
+    Ok(going.held)
 }
 
-// A proved loop has to end, and nothing says that an input does: the loop counts its turns down from a number that no run uses up.
-fn events(from: i32, to: i32, opened: Held) -> Going {
-    let mut held = opened;
-    let mut next: u64 = 1;
-    let mut more = true;
-    let mut is_failed = false;
-    let mut turns = u64::MAX;
-    while turns > 0 && more {
-        let going = piece(from, to, held, next);
-        let after = going.held;
-        held = after;
-        next = going.next;
-        more = going.more;
-        is_failed = going.is_failed;
-        turns -= 1;
-    }
-    Going {
-        held: held,
-        next: next,
-        more: more,
-        is_failed: is_failed,
-    }
-}
-
-fn write_header(to: i32) -> bool {
+fn write_header<W: Write>(to: &mut W) -> Result<(), Failure> {
     let mut line = [0u8; 6];
     let length = listing::header(&mut line);
     write(to, &line[..length])
 }
 
-fn write_refused(to: i32, answer: u8) {
+fn write_refused<W: Write>(to: &mut W, answer: u8) -> Result<(), Failure> {
     let mut line = [0u8; 29];
     let length = listing::refused(&mut line, answer);
-    write(to, &line[..length]);
+    write(to, &line[..length])
 }
 
-fn write_foot(to: i32, held: Held) {
+fn write_foot<W: Write>(to: &mut W, held: Held) -> Result<(), Failure> {
     let mut lines = [0u8; 4096];
     let length = listing::foot(&mut lines, held);
-    write(to, &lines[..length]);
+    write(to, &lines[..length])
 }
 
 // The opened bench, from the input's opening bytes.
-fn start(from: i32) -> Started {
+fn start<R: Read>(from: &mut R) -> Result<Answered, Failure> {
     let mut bytes = [0u8; 129];
-    let filled = read_opening(from, &mut bytes);
-    let got = filled.count;
+    let got = read_opening(from, &mut bytes)?;
     let opening = listing::read_opening(&bytes[..got]);
     let balances = opening.balances;
-    let opened = open(balances, opening.count);
-    Started {
-        opened: opened,
-        is_failed: filled.is_failed,
-    }
+    Ok(open(balances, opening.count))
 }
 
-// The run after a good opening: event lines as they come, then the foot, unless the run had to stop.
-fn run(from: i32, to: i32, held: Held) {
-    let last = events(from, to, held);
-    if !last.is_failed {
-        let after = last.held;
-        write_foot(to, after);
-    }
+// The run after a good opening: event lines as they come, then the foot.
+fn run<R: Read, W: Write>(from: &mut R, to: &mut W, held: Held) -> Result<(), Failure> {
+    let last = events(from, to, held)?;
+    write_foot(to, last)
 }
 
 // The whole run: header, event lines as they come, purse lines and the last line; or the header and the line of a refused opening. What
-// fails is told on standard error and ends it.
-pub fn list(from: i32, to: i32) {
-    if !write_header(to) {
-        return;
-    }
-    let started = start(from);
-    if started.is_failed {
-        return;
-    }
-    let opened = started.opened;
+// fails ends it.
+pub fn list<R: Read, W: Write>(from: &mut R, to: &mut W) -> Result<(), Failure> {
+    write_header(to)?;
+    let opened = start(from)?;
     let held = opened.held;
     if opened.answer == 0 {
-        run(from, to, held);
+        run(from, to, held)
     } else {
-        write_refused(to, opened.answer);
+        write_refused(to, opened.answer)
     }
 }
