@@ -12,22 +12,23 @@ NM ?= nm
 INSTALL ?= install
 
 crates := card_c bench_c image_c
-archives := $(crates:%=target/staticlib/lib%.a)
-sources := crates.txt $(shell find crates -type f \( -path '*/src/*' -o -path '*/specs/*' -o -path '*/proofs/*' \))
+archives := $(foreach crate,$(crates),crates/$(crate)/out/lib$(crate).a)
+sources := crates.txt $(shell find crates -name out -prune -o -type f \( -path '*/src/*' -o -path '*/specs/*' -o -path '*/proofs/*' \) -print)
 prefix := $(abspath $(PREFIX))
 place := $(DESTDIR)$(prefix)
 
 .PHONY: all install uninstall check
-# one proof at a time: the crates share target/
+# one proof at a time: the crates stand on the same libraries
 .NOTPARALLEL:
 .DELETE_ON_ERROR:
 
 all: target/libprs.a
 
-target/staticlib/lib%.a: $(sources)
+$(archives): $(sources)
 	@command -v $(RT) >/dev/null || { echo "make: $(RT) is missing: install the Rattle kit and put its bin folder on PATH" >&2; exit 1; }
-	$(RT) staticlib $*
-	@touch $@
+	@rm -f $@
+	cd $(patsubst %/out/,%,$(dir $@)) && $(RT) lib
+	@[ -f $@ ] || { echo "make: $(RT) lib left no $@: crates.txt must call the crate a staticlib" >&2; exit 1; }
 
 # Members and symbols of the three must all differ, and the symbols must be the header's.
 target/libprs.a: $(archives) include/prs.h

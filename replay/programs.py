@@ -9,13 +9,18 @@ import subprocess
 from .failure import Failure, reason
 from .state import STATE_SIZE, state
 
-BUILT = pathlib.Path(__file__).resolve().parent.parent / "target" / "bin"
+ROOT = pathlib.Path(__file__).resolve().parent.parent
+
+
+def built(name):
+    """Where rt leaves a program."""
+    return f"crates/{name}/out/{name}"
 
 
 def command(name):
     """The words that start a program; on another processor than the program's, ./prs names the
     kit's emulator."""
-    program = str(BUILT / name)
+    program = str(ROOT / built(name))
     tools = os.environ.get("PRS_TOOLS")
     if tools:
         return [
@@ -29,7 +34,7 @@ def command(name):
 
 
 def no_program(name, error):
-    return Failure(f"target/bin/{name} cannot be run: {reason(error)}")
+    return Failure(f"{built(name)} cannot be run: {reason(error)}")
 
 
 def listing(data):

@@ -174,7 +174,7 @@ class Run:
         if self.listing.splitlines() != list(self.lines()):
             raise Failure(
                 f"{self.text.name}: the bench program and the probe do not agree;"
-                " rm -r target builds both anew"
+                " rm -r crates/*/out builds both anew"
             )
 
     @cached_property

@@ -1,13 +1,13 @@
 #!/bin/sh
 # Runs every test beside the proofs, the rig in its short form, and says what failed.
 #
-#     tests/all.sh [PRS PROBE]      target/bin/prs and target/bin/probe without arguments
+#     tests/all.sh [PRS PROBE]      the programs where rt leaves them without arguments
 #
 # The exit status is 1 on any failure.
 set -u
 cd "$(dirname "$0")/.." || exit 1
-prs=${1:-target/bin/prs}
-probe=${2:-target/bin/probe}
+prs=${1:-crates/prs/out/prs}
+probe=${2:-crates/probe/out/probe}
 failed=""
 
 # run NAME COMMAND..: shows failures and the last line

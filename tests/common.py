@@ -8,8 +8,8 @@ import words
 ROOT = Path(__file__).resolve().parent.parent
 VECTORS = ROOT / "tests" / "vectors"
 EXAMPLES = ROOT / "examples"
-PRS = ROOT / "target" / "bin" / "prs"
-PROBE = ROOT / "target" / "bin" / "probe"
+PRS = ROOT / "crates" / "prs" / "out" / "prs"
+PROBE = ROOT / "crates" / "probe" / "out" / "probe"
 
 
 def finish(passed, failed):

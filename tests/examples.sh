@@ -2,12 +2,12 @@
 # Runs every example and every test vector through the bench program and compares the listing with
 # the one kept beside it, byte by byte; every example through ./prs list too.
 #
-#     tests/examples.sh [PROGRAM]      the program is target/bin/prs without an argument
+#     tests/examples.sh [PROGRAM]      the program is crates/prs/out/prs without an argument
 #
 # The last line is 'N passed, M failed'; the exit status is 1 on any failure.
 set -u
 cd "$(dirname "$0")/.." || exit 1
-program=${1:-target/bin/prs}
+program=${1:-crates/prs/out/prs}
 made=$(mktemp -d) || exit 1
 trap 'rm -rf "$made"' EXIT
 passed=0

@@ -11,7 +11,7 @@ from common import ROOT, finish
 HEADER = ROOT / "include/prs.h"
 NUMBERS = {"u8": ("uint8_t", 1), "u16": ("uint16_t", 2), "u32": ("uint32_t", 4), "usize": ("size_t", 8)}
 STRUCT = re.compile(r"((?:#\[[^\]]*\]\s*)*)(?:pub )?struct (\w+)\s*(?:\(([^;]*)\)\s*;|\{([^}]*)\})")
-EXPORT = re.compile(r'#\[no_mangle\]\s*pub extern "C" fn (\w+)\s*\(([^)]*)\)\s*->\s*(\w+)')
+EXPORT = re.compile(r'#\[unsafe\(no_mangle\)\]\s*pub extern "C" fn (\w+)\s*\(([^)]*)\)\s*->\s*(\w+)')
 
 passed, faults = 0, []
 
@@ -43,7 +43,7 @@ for path in sorted((ROOT / "crates").glob("*/src/*.rt")):
             structs[name] = [("n", kind.removeprefix("pub ")) for kind in listed(tuple_fields)]
         else:
             structs[name] = [tuple(re.split(r":\s*", field.removeprefix("pub "), maxsplit=1)) for field in listed(fields)]
-    marked += source.count("#[no_mangle]")
+    marked += len(re.findall(r"\bno_mangle\b", source))
     for name, parameters, result in EXPORT.findall(source):
         exports[name] = ([tuple(re.split(r":\s*", parameter, maxsplit=1)) for parameter in listed(parameters)], result)
 
@@ -106,7 +106,7 @@ for result, name, parameters in re.findall(r"^(\w+) (prs_\w+)\(([^)]*)\);", head
     prototypes[name] = (result, [re.fullmatch(r"(.*?[ *])(\w+)", " ".join(part.split())).groups() for part in listed(parameters)])
 asserts = re.findall(r"PRS_LAID\((\w+)\((\w+)(?:, (\w+))?\) == (\d+)\);", header)
 
-hold(len(exports) == marked > 0, f"{marked} functions are marked #[no_mangle], {len(exports)} were read")
+hold(len(exports) == marked > 0, f"{marked} functions are marked no_mangle, {len(exports)} were read")
 for name, (parameters, result) in sorted(exports.items()):
     wanted = (c_type(result)[0], [one for parameter in parameters for one in c_parameters(*parameter)])
     said = prototypes.pop(name, None)

@@ -17,8 +17,9 @@ PAGE = ROOT / "docs/CONTRACTS.md"
 LINK = re.compile(r"\[(`?)([^\]]+?)`?\]\(([^)#\s]+)(?:#[^)]*)?\)")
 FUNCTION = re.compile(r'\s*pub (?:extern "C" )?fn (\w+)')
 HEADER = re.compile(FUNCTION.pattern + r"(?:<[^>]*>)?\(([^)]*)\)(?: -> ([^\n{]+?))?(?: \{$|\n(.*?)^ *\{$)", re.S | re.M)
-ENSURES = re.compile(r"ensures \{ λ r\. ⌜ (.*?) ⌝ \}")
 COMPARISON = re.compile(r"[\w′ .()+*/%-]+ [≡<≤] [\w′ .()+*/%-]+")
+# The equality of a contract and that of a theorem are one, which the library passes on under other names.
+EQUALITY = dict.fromkeys(["Rattle.std.specs.Prelude", "Rattle.std.proofs.Common"], "mathlib.Core.Path")
 LAWS = {"one": 1, "two": 2, "three": 3, "four": 4}
 LAWS_FILE = "crates/purse/proofs/Unique.antt"
 NO_CONTRACT = [("crates/stream/src/lib.rt", "list")]
@@ -76,14 +77,18 @@ def public(library):
     """The public functions of a library, each as its file, its name and the file's text from there on: those of lib.rt and of its public
     modules, those that it uses publicly, and the methods of its types."""
     text = library.read_text()
-    used = set(re.findall(r"^pub use (\w+)::(\w+)", text, re.M))
+    used = {
+        (module, name)
+        for module, names in re.findall(r"^pub use (\w+)::(\w+|\{[^}]*\});", text, re.M)
+        for name in re.findall(r"\w+", names)
+    }
     modules = [("lib", True)] + [(name, bool(is_public)) for is_public, name in re.findall(r"^(pub )?mod (\w+);", text, re.M)]
     for module, is_public in modules:
         path = library.parent / f"{module}.rt"
         in_impl = False
         lines = path.read_text().splitlines()
         for at, line in enumerate(lines):
-            in_impl = line.startswith("impl ") or (in_impl and not line.startswith("}"))
+            in_impl = bool(re.match(r"impl\b", line)) or (in_impl and not line.startswith("}"))
             match = FUNCTION.match(line)
             if match and (is_public or in_impl or (module, match.group(1)) in used):
                 yield path, match.group(1), "\n".join(lines[at:])
@@ -103,21 +108,46 @@ def parts(text, sign):
 
 def terms(text):
     """The names and signs of a text, without fields and numbers."""
-    return {term for term in re.split(r"[\s().]+", re.sub(r" \.\w+", "", text)) if term and not term.isdigit()}
+    return {term for term in re.split(r"[\s().]+", re.sub(r"(?<=[\w)])\.\w+", "", text)) if term and not term.isdigit()}
 
 
-def plain(text):
-    """A text on one line, with x for `now (x .entry)` and x′ for `now (x .exit)`."""
-    text = " ".join(text.split())
-    for lent in (r"\(now \((\w+) \.(entry|exit)\)\)", r"now \((\w+) \.(entry|exit)\)"):
-        text = re.sub(lent, lambda found: found[1] + ("′" if found[2] == "exit" else ""), text)
+def lent(argument):
+    """How a parameter is lent: "&", "&mut", or not at all."""
+    found = re.search(r"&(?:'\w+ )?(mut\b)?", argument)
+    return found and "&" + (found[1] or "")
+
+
+def plain(text, parameters):
+    """A text on one line, with x for `x.now` and `x.old` and x′ for `x.new` of a lent x."""
+    text = " ".join(re.sub(r"//.*", "", text).split())
+    for name, argument in parameters.items():
+        for word, mark in {None: {}, "&": {"now": ""}, "&mut": {"old": "", "new": "′"}}[lent(argument)].items():
+            text = re.sub(rf"(?<![\w.]){name}\.{word}\b", name + mark, text)
     return text
+
+
+def clauses_of(text):
+    """The facts of the `ensures` clauses of a text on one line, with names or without, and the words of all else."""
+    facts, rest = [], []
+    while text:
+        head = re.match(r"ensures (?:\w+ )?\{ ", text)
+        depth, end = 0, 0
+        for end, letter in enumerate(text, 1):
+            depth += (letter == "{") - (letter == "}")
+            if letter == "}" and depth == 0:
+                break
+        if head and text[:end].endswith(" }"):
+            facts.append(text[head.end() : end - 2])
+        else:
+            rest.append(text[:end])
+        text = text[end:].lstrip()
+    return facts, rest
 
 
 def uses(path):
     """The names that a file uses of specs, proofs and libraries, each with its module."""
     found = re.findall(r"^(?:ghost )?use ([^\s{]+)\.\{([^}]*)\}", path.read_text(), re.M)
-    return {name.strip("_"): module.replace("·specs.specs.", ".specs.") for module, names in found for name in names.split(", ")}
+    return {name.strip().strip("◌"): module for module, names in found for name in names.split(",")}
 
 
 def conjuncts(fact, used):
@@ -128,7 +158,7 @@ def conjuncts(fact, used):
     pieces = parts(fact, "×")
     if len(pieces) > 1:
         return [conjunct for piece in pieces for conjunct in conjuncts(piece, used)]
-    path = CRATES / (used.get(name, "").removeprefix("Rattle·").replace(".", "/") + ".antt")
+    path = CRATES / (used.get(name, "").removeprefix("Rattle.").replace(".", "/") + ".antt")
     short = path.exists() and re.search(rf"^abbrev pub {name} : .*\n{name} (.*) = (.*)$", path.read_text(), re.M)
     if not short:
         return [fact]
@@ -139,8 +169,9 @@ def conjuncts(fact, used):
 def equation(fact):
     """Both sides of a fact that says by the arguments alone what the result, a field of it or a lent part is; None of another fact."""
     left, *right = parts(fact, "≡")
-    is_left = re.fullmatch(r"r|r \.\w+|\w+′", left)
-    is_right = len(right) == 1 and re.fullmatch(r"[\w .()+*/%-]+", right[0]) and "r" not in terms(right[0]) and ".exit" not in right[0]
+    is_left = re.fullmatch(r"result|result\.\w+|\w+′", left)
+    is_right = len(right) == 1 and re.fullmatch(r"[\w .()+*/%-]+", right[0]) and "result" not in terms(right[0])
+    is_right = is_right and not re.search(r"\.(now|old|new)\b", right[0])
     return (left, right[0]) if is_left and is_right else None
 
 
@@ -160,15 +191,15 @@ def contract(path, text):
     """The contract of the function that starts a text, out of its file."""
     _, arguments, result, clauses = HEADER.match(text).groups()
     parameters = {re.findall(r"\w+", argument.split(":")[0])[-1]: argument for argument in arguments.split(",") if argument.strip()}
-    clauses = plain(clauses or "")
-    facts = [conjunct for fact in ENSURES.findall(clauses) for conjunct in conjuncts(fact, uses(path))]
+    said, others = clauses_of(plain(clauses or "", parameters))
+    facts = [conjunct for fact in said for conjunct in conjuncts(fact, uses(path))]
     equations = [equation(fact) for fact in facts if equation(fact)]
     besides = [fact for fact in facts if not equation(fact) and COMPARISON.fullmatch(fact)]
-    rest = [fact for fact in facts if not COMPARISON.fullmatch(fact)] + ENSURES.sub("", clauses).split()
-    wanted = ["r"] if result else []
-    if result and any(left.startswith("r .") for left, _ in equations):
-        wanted = [f"r .{field}" for field in fields(result)]
-    wanted += [f"{name}′" for name, argument in parameters.items() if re.search(r"&('\w+ )?mut\b", argument)]
+    rest = [fact for fact in facts if not COMPARISON.fullmatch(fact)] + others
+    wanted = ["result"] if result else []
+    if result and any(left.startswith("result.") for left, _ in equations):
+        wanted = [f"result.{field}" for field in fields(result)]
+    wanted += [f"{name}′" for name, argument in parameters.items() if lent(argument) == "&mut"]
     return Contract(list(parameters), wanted, equations, besides, " ".join(rest))
 
 
@@ -200,18 +231,20 @@ def own(path, said, file, name):
     parameters, *claims = statement(file, name)
     names = [word for group in re.findall(r"\(([^():]*) : ", parameters) for word in group.split()]
     given, results = names[: len(said.parameters)], names[len(said.parameters) :]
-    subjects = list(dict.fromkeys(left.split()[0] for left, _ in said.equations))
+    subjects = list(dict.fromkeys(left.split(".")[0] for left, _ in said.equations))
     cited = terms(" ".join(right for _, right in said.equations)) - set(given)
     if given != said.parameters or len(results) != 2 * len(subjects) or set(results) & cited:
         return f"{name} is not about the parameters and two of each: {', '.join(subjects)}"
 
     def held_by(results):
         values = dict(zip(subjects, results))
-        return equal((re.sub(r"^\S+", lambda word: values[word[0]], left), right) for left, right in said.equations)
+        return equal((re.sub(r"^[\w′]+", lambda word: values[word[0]], left), right) for left, right in said.equations)
 
     if claims != [held_by(results[::2]), held_by(results[1::2]), equal(zip(results[::2], results[1::2]))]:
         return f"{name} does not say the contract"
     ours, theirs = uses(path), uses(ROOT / file)
+    for used in (ours, theirs):
+        used.update({"≡": EQUALITY.get(used["≡"], used["≡"])} if "≡" in used else {})
     others = [term for term in sorted(cited | {"≡"}) if term not in ours or ours[term] != theirs.get(term)]
     return f"{name} has another {others[0]}" if others else None
 

@@ -2,7 +2,7 @@
 """The differential rig: drives the bench program and the probe beside the model of the documents and
 compares every byte that they give.
 
-    rig.py                          both programs, at their places under target/bin
+    rig.py                          both programs, where rt leaves them
     rig.py --short                  about half a minute
     rig.py --seed 7 --events 1000000 --requests 100000
     rig.py --prs PATH --probe PATH  other programs
