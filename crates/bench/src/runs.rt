@@ -42,7 +42,8 @@ pub(crate) fn each(held: Held, input: &[u8], answers: &mut [u8], n: usize) -> He
         let t = tell(Head::of(p), asked);
         let mut answer = t.answer;
         // from 2 up nothing changes
-        if answer == 0 {
+        let moves = answer == 0;
+        if moves {
             let head = t.head;
             let log = t.log;
             let m = t.message;

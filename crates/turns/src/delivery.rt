@@ -51,7 +51,8 @@ pub(crate) fn deliver(h: Head, own: Name, m: Message) -> Turned
     ensures { result ≡ turn_deliver h own m }
 {
     let n = deliver_number(h, own, m);
-    if n == 0 {
+    let is_taken = n == 0;
+    if is_taken {
         let kind = m.kind;
         match kind {
             1 => pay(h),

@@ -68,7 +68,8 @@ pub fn write(held: Held, out: &mut [u8]) -> Written
     let room = out.len();
     let n = tested(0, !held_ok(held), 2);
     let n = tested(n, room < length, 19);
-    if n == 0 {
+    let is_written = n == 0;
+    if is_written {
         put_bench(out, held);
         Written {
             answer: 0,

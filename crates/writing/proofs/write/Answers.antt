@@ -17,17 +17,17 @@ number c =
 pub put_bench-requires : goal.put_bench-requires
 put_bench-requires c =
     let args = c.args in
-    let ok = writes args.held args.out.now (sym (number (goal.at.put_bench-requires c).After-tested-n-2) ∙ c.if-n-eq0.true) in
+    let ok = writes args.held args.out.now (sym (number (goal.at.put_bench-requires c).After-tested-n-2) ∙ c.if-is_written.true) in
     (ok.rules, ok.room)
 
-pub returns-then-n-eq0 : goal.returns-then-n-eq0
-returns-then-n-eq0 c =
+pub returns-then-is_written : goal.returns-then-is_written
+returns-then-is_written c =
     let args = c.args in
-    let none = sym (number (goal.at.returns-then-n-eq0 c).After-tested-n-2) ∙ c.if-n-eq0.true in
+    let none = sym (number (goal.at.returns-then-is_written c).After-tested-n-2) ∙ c.if-is_written.true in
     let ok = writes args.held args.out.now none in
     wrote args.held args.out.now none (c.image_length-length.ensures ∙ sym (held-length args.held ok.rules)) c.put_bench.ensures
 
-pub returns-else-n-eq0 : goal.returns-else-n-eq0
-returns-else-n-eq0 c =
+pub returns-else-is_written : goal.returns-else-is_written
+returns-else-is_written c =
     let args = c.args in
-    wrote_nothing args.held args.out.now (number (goal.at.returns-else-n-eq0 c).After-tested-n-2) c.if-n-eq0.false
+    wrote_nothing args.held args.out.now (number (goal.at.returns-else-is_written c).After-tested-n-2) c.if-is_written.false

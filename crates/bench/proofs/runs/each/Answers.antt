@@ -21,7 +21,7 @@ use Prim.Native.Nat.{ℕ, ◌+◌, ◌*◌, ◌-◌, ◌<◌}
 use mathlib.Core.Path.{◌≡◌, refl, ◌∙◌, ap}
 use native.Mathlib.Omega.{arith}
 use Rattle.bench.proofs.runs.each.Goals as goal
-use Rattle.bench.proofs.runs.each.Goals.{then-answer-eq0+in-Nothing, then-answer-eq0+in-Send, then-answer-eq0+in-Lose, then-answer-eq0+in-Store, then-answer-eq0+in-Issue, else-answer-eq0}
+use Rattle.bench.proofs.runs.each.Goals.{then-moves+in-Nothing, then-moves+in-Send, then-moves+in-Lose, then-moves+in-Store, then-moves+in-Issue, else-moves}
 
 pub loop-i-init : goal.loop-i-init
 loop-i-init c = going_start _ _ _ _ c.requires.0
@@ -38,13 +38,13 @@ offset_bounds-table-k c = let below : c.look-seen.result.place < 32 = rw c.look-
 pub bounds-table-k : goal.bounds-table-k
 bounds-table-k c = rw c.look-seen.ensures (look_below _ _ _ _ _)
 
-pub offset_bounds-table-k-then-answer-eq0 : goal.offset_bounds-table-k-then-answer-eq0
-offset_bounds-table-k-then-answer-eq0 c =
+pub offset_bounds-table-k-then-moves : goal.offset_bounds-table-k-then-moves
+offset_bounds-table-k-then-moves c =
     let below : c.look-seen.result.place < 32 = rw c.look-seen.ensures (look_below _ _ _ _ _) in
     omega arith
 
-pub bounds-table-k-then-answer-eq0 : goal.bounds-table-k-then-answer-eq0
-bounds-table-k-then-answer-eq0 c = rw c.look-seen.ensures (look_below _ _ _ _ _)
+pub bounds-table-k-then-moves : goal.bounds-table-k-then-moves
+bounds-table-k-then-moves c = rw c.look-seen.ensures (look_below _ _ _ _ _)
 
 pub bounds-answers-i : goal.bounds-answers-i
 bounds-answers-i c = omega (arith, c.loop-i-test.true, c.loop-i.invariant.said.long, c.requires.2)
@@ -76,26 +76,26 @@ loop-i-preserved c =
     by_asked h k a t v _ _ _ long.1 refl (at_any h.table k _ zero_purse inside) m c.look-seen.ensures c.ask-asked.ensures
     (c.tell-t.ensures ∙ ap (λ (d : Head). told_at d a) c.of.ensures)
     in
-    let s : Answered = record { answer = c.if-answer-eq0.answer; held = bench c.if-answer-eq0.table c.if-answer-eq0.purses c.if-answer-eq0.ether c.if-answer-eq0.archive } in
+    let s : Answered = record { answer = c.if-moves.answer; held = bench c.if-moves.table c.if-moves.purses c.if-moves.ether c.if-moves.archive } in
     let done : s ≡ settled_at h k a t =
-    elim c.if-answer-eq0.branch [
-      | then-answer-eq0+in-Nothing w ↦
+    elim c.if-moves.branch [
+      | then-moves+in-Nothing w ↦
           rw (w.table-is, w.purses-is, w.ether-is, w.archive-is, w.answer-is)
-          (when-nothing h k a t w.if-answer-eq0.true _ (at_any h.table k _ zero_purse inside) _ w.record-q.ensures _ w.change_of-change.ensures w.in-Nothing.is)
-      | then-answer-eq0+in-Send w ↦
+          (when-nothing h k a t w.if-moves.true _ (at_any h.table k _ zero_purse inside) _ w.record-q.ensures _ w.change_of-change.ensures w.in-Nothing.is)
+      | then-moves+in-Send w ↦
           rw (w.table-is, w.purses-is, w.ether-is, w.archive-is, w.answer-is)
-          (when_sent h k a t w.if-answer-eq0.true _ (at_any h.table k _ zero_purse inside) _ w.record-q.ensures _ w.change_of-change.ensures _ w.add-changed.result _ w.in-Send.is w.add-changed.ensures w.tested-answer.ensures)
-      | then-answer-eq0+in-Lose w ↦
+          (when_sent h k a t w.if-moves.true _ (at_any h.table k _ zero_purse inside) _ w.record-q.ensures _ w.change_of-change.ensures _ w.add-changed.result _ w.in-Send.is w.add-changed.ensures w.tested-answer.ensures)
+      | then-moves+in-Lose w ↦
           rw (w.table-is, w.purses-is, w.ether-is, w.archive-is, w.answer-is)
-          (when_lost h k a t w.if-answer-eq0.true _ (at_any h.table k _ zero_purse inside) _ w.record-q.ensures _ w.change_of-change.ensures _ w.take_out-changed.result w.in-Lose.is w.take_out-changed.ensures)
-      | then-answer-eq0+in-Store w ↦
+          (when_lost h k a t w.if-moves.true _ (at_any h.table k _ zero_purse inside) _ w.record-q.ensures _ w.change_of-change.ensures _ w.take_out-changed.result w.in-Lose.is w.take_out-changed.ensures)
+      | then-moves+in-Store w ↦
           rw (w.table-is, w.purses-is, w.ether-is, w.archive-is, w.answer-is)
-          (when-stored h k a t w.if-answer-eq0.true _ (at_any h.table k _ zero_purse inside) _ w.record-q.ensures _ w.change_of-change.ensures _ w.store-next.result w.in-Store.is w.store-next.ensures)
-      | then-answer-eq0+in-Issue w ↦
+          (when-stored h k a t w.if-moves.true _ (at_any h.table k _ zero_purse inside) _ w.record-q.ensures _ w.change_of-change.ensures _ w.store-next.result w.in-Store.is w.store-next.ensures)
+      | then-moves+in-Issue w ↦
           rw (w.table-is, w.purses-is, w.ether-is, w.archive-is, w.answer-is)
-          (when_issued h k a t w.if-answer-eq0.true _ (at_any h.table k _ zero_purse inside) _ w.record-q.ensures _ w.change_of-change.ensures _ w.in-Issue.is w.one_more-purses.ensures)
-      | else-answer-eq0 w ↦
-          rw (w.table-is, w.purses-is, w.ether-is, w.archive-is, w.answer-is) (when-refused h k a t w.if-answer-eq0.false)
+          (when_issued h k a t w.if-moves.true _ (at_any h.table k _ zero_purse inside) _ w.record-q.ensures _ w.change_of-change.ensures _ w.in-Issue.is w.one_more-purses.ensures)
+      | else-moves w ↦
+          rw (w.table-is, w.purses-is, w.ether-is, w.archive-is, w.answer-is) (when-refused h k a t w.if-moves.false)
     ]
     in
     let twelve : 12 * i + 12 - 12 * i ≡ 12 = omega arith in

@@ -13,26 +13,26 @@ use Rattle.turns.proofs.delivery.deliver.Goals.{in-0-1, in_default-1}
 pub pay-requires : goal.pay-requires
 pay-requires c =
     let h = c.args.h in
-    pay_passed h c.args.own c.args.m (sym c.deliver_number-n.ensures ∙ c.if-n-eq0.true) c.in-1.is
+    pay_passed h c.args.own c.args.m (sym c.deliver_number-n.ensures ∙ c.if-is_taken.true) c.in-1.is
 
 pub receive-requires : goal.receive-requires
 receive-requires c =
     let h = c.args.h in
-    get_passed h c.args.own c.args.m (sym c.deliver_number-n.ensures ∙ c.if-n-eq0.true) c.in-2.is
+    get_passed h c.args.own c.args.m (sym c.deliver_number-n.ensures ∙ c.if-is_taken.true) c.in-2.is
 
 pub returns-in-1 : goal.returns-in-1
 unfolding turn_deliver
 returns-in-1 c =
     let h = c.args.h in
     c.pay.ensures ∙ sym (deliver_request h c.args.m.kind c.in-1.is)
-    ∙ sym (done_at_lem h (deliver_number h c.args.own c.args.m) _ c.deliver_number-n.ensures c.if-n-eq0.true)
+    ∙ sym (done_at_lem h (deliver_number h c.args.own c.args.m) _ c.deliver_number-n.ensures c.if-is_taken.true)
 
 pub returns-in-2 : goal.returns-in-2
 unfolding turn_deliver
 returns-in-2 c =
     let h = c.args.h in
     c.receive.ensures ∙ sym (deliver_value h c.args.m.kind c.in-2.is)
-    ∙ sym (done_at_lem h (deliver_number h c.args.own c.args.m) _ c.deliver_number-n.ensures c.if-n-eq0.true)
+    ∙ sym (done_at_lem h (deliver_number h c.args.own c.args.m) _ c.deliver_number-n.ensures c.if-is_taken.true)
 
 pub returns-in-0 : goal.returns-in-0
 unfolding turn_deliver
@@ -46,10 +46,10 @@ returns-in-0 c =
     ]
     in
     c.settle.ensures ∙ sym (deliver_other h kind other.0 other.1)
-    ∙ sym (done_at_lem h (deliver_number h c.args.own c.args.m) _ c.deliver_number-n.ensures c.if-n-eq0.true)
+    ∙ sym (done_at_lem h (deliver_number h c.args.own c.args.m) _ c.deliver_number-n.ensures c.if-is_taken.true)
 
-pub returns-else-n-eq0 : goal.returns-else-n-eq0
+pub returns-else-is_taken : goal.returns-else-is_taken
 unfolding turn_deliver
-returns-else-n-eq0 c =
+returns-else-is_taken c =
     let h = c.args.h in
-    c.refused.ensures ∙ sym (refused_at_lem h (deliver_number h c.args.own c.args.m) _ c.deliver_number-n.ensures c.if-n-eq0.false)
+    c.refused.ensures ∙ sym (refused_at_lem h (deliver_number h c.args.own c.args.m) _ c.deliver_number-n.ensures c.if-is_taken.false)
