@@ -18,7 +18,7 @@ use Rattle.purse.specs.Tests.{Test, ◌⇒◌, first}
 use Rattle.purse.specs.Step.{own_tests, start_tests, from_number, to_number, expected, deliver_number, abort_number, collect_number, raise_tests, load_number}
 use Rattle.purse.proofs.Bools.{and_l, and_r, nor_l, nor_r, either}
 use Rattle.purse.proofs.Tests.{passed}
-use Rattle.purse.proofs.Rules.{room, can_pay, can_get}
+use Rattle.purse.proofs.Rules.{can_pay, can_get}
 
 -- the first tests of every step
 pub own_passed : (p : Purse) (own : Name) (rest : List Test) → first (own_tests p own ++ rest) ≡ 0 → (well_formed own p ≡ true) × (first rest ≡ 0)

@@ -1,8 +1,7 @@
 -- Each turn of the loop sets one key more.
 -- Assumes nothing.
-use Prim.Native.Nat.{◌-◌}
 use mathlib.Core.Path.{◌≡◌, refl}
-use lib.ListN.{length, length-map}
+use lib.ListN.{length}
 use native.Mathlib.Omega.{arith}
 use Rattle.desk.specs.Desk.{zero_entry, same_entry}
 use Rattle.table_records.specs.Records.{entry_key}

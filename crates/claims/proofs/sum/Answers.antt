@@ -1,11 +1,11 @@
 -- Each turn of the outer loop adds one entry; the sum is at most 5,000,000 an entry. The first inner loop looks for the partner's key, the second for the
 -- partner itself, among all entries of the archive or among none, until it is found.
 -- Assumes nothing.
-use Prim.Native.Nat.{ℕ, ◌+◌, ◌-◌, ◌≤◌, ◌<◌}
+use Prim.Native.Nat.{ℕ, ◌+◌, ◌≤◌, ◌<◌}
 use mathlib.Core.Path.{◌≡◌, refl, sym, ap, ◌∙◌}
 use mathlib.Core.Bool.{Bool, true, false, ◌&&◌, ◌||◌, and-true, or-false, or_assoc, cond}
 use mathlib.Core.Logic.{◌⊎◌, inl, inr, ⊎_elim}
-use lib.ListN.{length, length-map, take, get_or}
+use lib.ListN.{length, take, get_or}
 use lib.Dec.{ltb, eqb}
 use native.Mathlib.Omega.{arith}
 use borrow.Author.Tests.{leb-true, ltb-true, ltb-false}

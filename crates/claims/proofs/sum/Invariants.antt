@@ -9,7 +9,6 @@ use lib.Dec.{eqb}
 use Rattle.purse.specs.Lists.{among, total}
 use Rattle.desk.specs.Desk.{same_entry}
 use Rattle.claims.specs.Claims.{entry_claim}
-use Rattle.claims.proofs.Partners.{partner}
 use Rattle.claims.proofs.sum.Given as goal
 
 abbrev pub invariant-loop-s : goal.invariant-loop-s

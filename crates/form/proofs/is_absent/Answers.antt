@@ -2,7 +2,6 @@
 use native.Mathlib.Omega.{arith}
 use native.Mathlib.Numerals.{add-one}
 use mathlib.Core.Path.{◌≡◌}
-use Prim.Native.Nat.{◌-◌}
 use Rattle.purse.specs.Details.{absent}
 use borrow.Author.Rules.{rules}
 use Rattle.form.proofs.is_absent.Goals as goal

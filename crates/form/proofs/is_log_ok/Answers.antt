@@ -1,6 +1,5 @@
 -- `form::is_log_ok` meets its contract: each turn of the first loop asks a used place more, each turn of the second leaves an unused
 -- one less, and that is the whole log (`log-parts`). Assumes nothing.
-use Prim.Native.Nat.{◌-◌}
 use mathlib.Core.Path.{◌≡◌, refl, sym, ◌∙◌}
 use mathlib.Core.Bool.{true, ◌&&◌}
 use lib.ListN.{length, drop}
@@ -11,7 +10,6 @@ use Rattle.purse.specs.Details.{zero_details}
 use Rattle.purse.proofs.Walks.{more_every, rest_more, rest_end}
 use Rattle.form.specs.Form.{unused, logging}
 use Rattle.form.proofs.Parts.{used_at, log_parts}
-use borrow.Author.Rules.{rules}
 use Rattle.form.proofs.is_log_ok.Goals as goal
 use Rattle.form.proofs.is_log_ok.Goals.{Start}
 

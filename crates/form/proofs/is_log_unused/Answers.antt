@@ -1,5 +1,5 @@
 -- `form::is_log_unused` meets its contract: each turn of the loop asks one place more, and there are eight. Assumes nothing.
-use Prim.Native.Nat.{◌≤◌, ◌-◌}
+use Prim.Native.Nat.{◌≤◌}
 use mathlib.Core.Path.{◌≡◌, refl, ap, ◌∙◌}
 use lib.ListN.{length}
 use lib.Seq.{take_all}

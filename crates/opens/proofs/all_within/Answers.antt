@@ -2,7 +2,6 @@
 -- Assumes nothing.
 use Rattle.opens.specs.Opens.{within}
 use Rattle.purse.proofs.Walks.{rest_more, rest_end}
-use Prim.Native.Nat.{◌-◌}
 use mathlib.Core.Path.{refl}
 use native.Mathlib.Omega.{arith}
 use Rattle.opens.proofs.all_within.Goals as goal

@@ -7,7 +7,6 @@ use Rattle.purse.specs.Lists.{padded}
 use Rattle.purse.specs.declared.Purse.{Purse}
 use lib.ListN.{take, set, replicate}
 use mathlib.Core.List.{List, map}
-use Prim.Native.Nat.{◌-◌}
 use mathlib.Core.Path.{◌∙◌, ap}
 use native.Mathlib.Omega.{arith}
 use Rattle.opens.proofs.opened.Goals as goal

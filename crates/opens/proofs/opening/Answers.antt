@@ -3,7 +3,7 @@
 use Rattle.rules.proofs.Opened.{opens}
 use Rattle.rules.specs.Laid.{held_opening}
 use Rattle.rules.specs.Run.{opening_number}
-use lib.ListN.{length, length-map}
+use lib.ListN.{length}
 use mathlib.Core.Path.{◌≡◌, ◌∙◌, sym}
 use borrow.Author.Tests.{eq-eqb, ne_eqb}
 use Rattle.opens.proofs.opening.Goals as goal

@@ -1,6 +1,5 @@
 -- `parts::get_log` meets its contract. The invariant is `Filled`, the law of every loop that reads.
 -- Assumes nothing.
-use Prim.Native.Nat.{◌-◌}
 use native.Mathlib.Omega.{arith}
 use mathlib.Core.Path.{◌∙◌}
 use Rattle.purse.specs.Details.{zero_details}

@@ -1,6 +1,5 @@
 -- `parts::put_log` meets its contract. The invariant is `Wrote`, the law of every loop that writes.
 -- Assumes nothing.
-use Prim.Native.Nat.{◌-◌}
 use mathlib.Core.Path.{◌≡◌, refl, ◌∙◌}
 use lib.ListN.{length, take}
 use lib.Seq.{take_all}

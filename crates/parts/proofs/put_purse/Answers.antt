@@ -2,7 +2,7 @@
 -- Assumes nothing.
 use mathlib.Core.Path.{◌≡◌, sym, ◌∙◌}
 use native.Mathlib.Omega.{arith}
-use lib.ListN.{length, length-append, length-map}
+use lib.ListN.{length, length-append}
 use Rattle.bigendian.specs.Bytes.{big}
 use Rattle.bigendian.proofs.Puts.{put_there, put_nowhere, then_put, then_there}
 use Rattle.layout.specs.Widths.{details_width}

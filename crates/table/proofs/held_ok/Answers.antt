@@ -1,7 +1,7 @@
 -- The parts asked come to all the rules (Held).
 -- Assumes nothing.
 use mathlib.Core.Path.{◌≡◌}
-use lib.ListN.{length, length-map}
+use lib.ListN.{length}
 use Rattle.table.proofs.Held.{held-asked}
 use Rattle.table.proofs.held_ok.Goals as goal
 

@@ -1,15 +1,12 @@
 -- Each entry is asked beside the record of the purse that logged it, and held against those before it. The ways out are the
 -- laws of Asked.
 -- Assumes nothing.
-use Prim.Native.Nat.{ℕ, ◌≤◌, ◌<◌, ◌-◌}
+use Prim.Native.Nat.{ℕ, ◌≤◌, ◌<◌}
 use mathlib.Core.Path.{◌≡◌, refl, sym, ap, ◌∙◌}
-use mathlib.Core.Bool.{true}
-use mathlib.Core.Logic.{⊎_elim}
-use lib.ListN.{length, length-map, take, get_or}
+use lib.ListN.{length, take, get_or}
 use lib.Dec.{eqb}
 use native.Mathlib.Omega.{arith}
-use borrow.Author.Rules.{rules}
-use Rattle.purse.specs.Lists.{all, among}
+use Rattle.purse.specs.Lists.{among}
 use Rattle.purse.proofs.Walks.{more_any, apart_more}
 use Rattle.desk.specs.Desk.{zero_entry, same_entry}
 use Rattle.table_records.specs.Records.{entry_key, entry_in, collected_ok}

@@ -2,7 +2,6 @@
 -- Assumes nothing.
 use mathlib.Core.Path.{◌≡◌, ◌∙◌}
 use mathlib.Core.Bool.{Bool}
-use mathlib.Core.Logic.{⊎_elim}
 use Rattle.desk.specs.declared.Entry.{Entry}
 use Rattle.desk.specs.Desk.{same_entry}
 use Rattle.rules.specs.Laid.{is_zero_entry}

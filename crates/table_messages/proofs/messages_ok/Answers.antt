@@ -2,7 +2,6 @@
 -- Assumes nothing.
 use mathlib.Core.Path.{◌≡◌, ◌∙◌}
 use mathlib.Core.Bool.{Bool}
-use mathlib.Core.Logic.{⊎_elim}
 use Rattle.purse.specs.declared.Message.{Message}
 use Rattle.purse.specs.Details.{same_message}
 use Rattle.rules.specs.Laid.{is_zero_message}

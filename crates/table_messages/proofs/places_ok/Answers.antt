@@ -1,8 +1,7 @@
 -- Each turn of the loop leaves one place less to ask; the count is asked beside them.
 -- Assumes nothing.
-use Prim.Native.Nat.{◌-◌}
 use mathlib.Core.Path.{◌≡◌, refl}
-use lib.ListN.{length, length-map}
+use lib.ListN.{length}
 use native.Mathlib.Omega.{arith}
 use borrow.Author.Tests.{eq-eqb}
 use Rattle.purse.specs.Details.{zero_message, same_message}

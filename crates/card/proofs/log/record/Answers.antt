@@ -1,6 +1,6 @@
 -- `card::log::record` meets its contract: the fields are set one by one, and the log by what becomes of it; past its last place nothing is set. Assumes nothing.
 use mathlib.Core.Path.{◌≡◌}
-use lib.ListN.{length, length-map, set}
+use lib.ListN.{length, set}
 use lib.Seq.{set_out}
 use native.Mathlib.Omega.{arith}
 use Rattle.card.proofs.log.record.Goals as goal

@@ -1,8 +1,7 @@
 -- The loop has moved the members from the place on down, one a turn (Moved); zero in the last place ends it.
 -- Assumes nothing.
-use Prim.Native.Nat.{◌-◌}
 use mathlib.Core.Path.{◌≡◌}
-use lib.ListN.{length, length-map, set}
+use lib.ListN.{length, set}
 use native.Mathlib.Omega.{arith}
 use borrow.Author.Tests.{lt-ltb, le-ltb, le-leb, lt-leb}
 use Rattle.purse.specs.Details.{zero_message}

@@ -1,6 +1,6 @@
 -- `lines::lines::events` meets its contract. The loop's invariant: the lines of the first i answers are put, at most 42 bytes each, and the next event's number is i more than the first.
 -- Assumes nothing.
-use Prim.Native.Nat.{ℕ, ◌≤◌, ◌<◌, ◌-◌, ◌*◌}
+use Prim.Native.Nat.{ℕ, ◌≤◌, ◌<◌, ◌*◌}
 use native.Mathlib.Omega.{arith}
 use mathlib.Core.Path.{◌≡◌, refl, ap, ◌∙◌}
 use mathlib.Core.Bool.{true, false}
@@ -12,7 +12,6 @@ use Rattle.purse.proofs.Bools.{no_and, and_i}
 use Rattle.lines.specs.Text.{numbered}
 use Rattle.lines.specs.Listing.{event_line, event_lines, lines_fit}
 use Rattle.lines.proofs.Puts.{put-nothing, line_more, same_bytes, filled, not_filled}
-use borrow.Author.Rules.{rules}
 use Rattle.lines.proofs.lines.events.Goals as goal
 
 module _ (first : ℕ) (answers l : List ℕ) where

@@ -2,7 +2,6 @@
 -- Assumes nothing.
 use borrow.Author.Tests.{lt-leb, le-leb}
 use Rattle.lines.proofs.Puts.{filled, not_filled}
-use borrow.Author.Rules.{rules}
 use Rattle.lines.proofs.lines.header.Goals as goal
 
 pub returns-then-out-lt6-clause-filled : goal.returns-then-out-lt6-clause-filled

@@ -2,7 +2,6 @@
 -- Assumes nothing.
 use Rattle.lines.specs.Listing.{event_line}
 use Rattle.lines.proofs.Puts.{then, one_byte}
-use borrow.Author.Rules.{rules}
 use Rattle.lines.proofs.lines.put_event.Goals as goal
 
 pub returns-clause-written : goal.returns-clause-written

@@ -3,7 +3,6 @@
 use borrow.Author.Tests.{lt-leb, le-leb}
 use Rattle.lines.specs.Listing.{opening_line}
 use Rattle.lines.proofs.Puts.{then, one_byte, filled, not_filled}
-use borrow.Author.Rules.{rules}
 use Rattle.lines.proofs.lines.refused.Goals as goal
 
 pub returns-then-out-lt29-clause-filled : goal.returns-then-out-lt29-clause-filled

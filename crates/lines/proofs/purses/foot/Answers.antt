@@ -5,7 +5,6 @@ use borrow.Author.Tests.{lt-leb, le-leb}
 use Rattle.desk.specs.declared.Figure.{Figure}
 use Rattle.lines.specs.Listing.{foot_with, foot_of}
 use Rattle.lines.proofs.Puts.{same_bytes, filled, not_filled}
-use borrow.Author.Rules.{rules}
 use Rattle.lines.proofs.purses.foot.Goals as goal
 
 pub returns-then-out-lt4096-clause-filled : goal.returns-then-out-lt4096-clause-filled

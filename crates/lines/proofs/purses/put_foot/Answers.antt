@@ -4,13 +4,12 @@ use Prim.Native.Nat.{ℕ}
 use native.Mathlib.Omega.{arith}
 use mathlib.Core.Path.{◌≡◌, ap, ◌∙◌}
 use mathlib.Core.List.{List}
-use lib.ListN.{length, take, length-map}
+use lib.ListN.{length, take}
 use Rattle.purse.specs.declared.Purse.{Purse}
 use Rattle.lines.specs.Text.{numbered}
 use Rattle.lines.specs.Listing.{purse_line, foot_with}
 use Rattle.lines.proofs.Puts.{then, same_bytes}
 use Rattle.purse.proofs.Lists.{take_least}
-use borrow.Author.Rules.{rules}
 use Rattle.lines.proofs.purses.put_foot.Goals as goal
 
 pub returns-clause-written : goal.returns-clause-written

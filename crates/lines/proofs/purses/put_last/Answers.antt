@@ -3,7 +3,6 @@
 use Rattle.lines.specs.Text.{field}
 use Rattle.lines.specs.Listing.{last_line}
 use Rattle.lines.proofs.Puts.{then, one_byte, then_two}
-use borrow.Author.Rules.{rules}
 use Rattle.lines.proofs.purses.put_last.Goals as goal
 
 pub returns-clause-written : goal.returns-clause-written

@@ -1,6 +1,6 @@
 -- `lines::purses::put_purses` meets its contract. The loop's invariant: the lines of the first i purses are put, at most 111 bytes each.
 -- Assumes nothing.
-use Prim.Native.Nat.{ℕ, ◌<◌, ◌-◌}
+use Prim.Native.Nat.{ℕ, ◌<◌}
 use native.Mathlib.Omega.{arith}
 use mathlib.Core.Path.{◌≡◌, refl, ◌∙◌}
 use mathlib.Core.List.{[]}

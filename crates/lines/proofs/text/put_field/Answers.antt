@@ -1,7 +1,6 @@
 -- `lines::text::put_field` meets its contract. A space and a number, one behind the other.
 -- Assumes nothing.
 use Rattle.lines.proofs.Puts.{then, one_byte}
-use borrow.Author.Rules.{rules}
 use Rattle.lines.proofs.text.put_field.Goals as goal
 
 pub returns-clause-written : goal.returns-clause-written

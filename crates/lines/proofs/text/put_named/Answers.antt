@@ -1,7 +1,6 @@
 -- `lines::text::put_named` meets its contract. A text and a number, one behind the other.
 -- Assumes nothing.
 use Rattle.lines.proofs.Puts.{then}
-use borrow.Author.Rules.{rules}
 use Rattle.lines.proofs.text.put_named.Goals as goal
 
 pub returns-clause-written : goal.returns-clause-written

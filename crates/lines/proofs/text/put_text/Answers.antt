@@ -1,6 +1,6 @@
 -- `lines::text::put_text` meets its contract. The loop's invariant: the first i bytes of the text are put, and the next goes behind them.
 -- Assumes nothing.
-use Prim.Native.Nat.{◌<◌, ◌-◌}
+use Prim.Native.Nat.{◌<◌}
 use native.Mathlib.Omega.{arith}
 use mathlib.Core.Path.{◌≡◌, refl}
 use lib.ListN.{length, take, length-set}

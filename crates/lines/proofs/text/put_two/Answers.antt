@@ -1,7 +1,6 @@
 -- `lines::text::put_two` meets its contract. Two numbers, one behind the other.
 -- Assumes nothing.
 use Rattle.lines.proofs.Puts.{then}
-use borrow.Author.Rules.{rules}
 use Rattle.lines.proofs.text.put_two.Goals as goal
 
 pub returns-clause-written : goal.returns-clause-written

@@ -1,8 +1,7 @@
 -- Each turn of the loop looks at one log entry more.
 -- Assumes nothing.
-use Prim.Native.Nat.{◌-◌}
 use mathlib.Core.Path.{◌≡◌, refl}
-use lib.ListN.{length, length-map}
+use lib.ListN.{length}
 use native.Mathlib.Omega.{arith}
 use Rattle.purse.specs.Lists.{among}
 use Rattle.purse.specs.Details.{zero_details, same_details}

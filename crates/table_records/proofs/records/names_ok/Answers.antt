@@ -1,8 +1,7 @@
 -- Each turn of the loop asks one log entry more; the running details are asked beside it.
 -- Assumes nothing.
-use Prim.Native.Nat.{◌-◌}
 use mathlib.Core.Path.{◌≡◌, refl, sym}
-use lib.ListN.{length, length-map}
+use lib.ListN.{length}
 use native.Mathlib.Omega.{arith}
 use Rattle.purse.specs.Lists.{all}
 use Rattle.purse.specs.Details.{zero_details}

@@ -1,7 +1,7 @@
 -- Each turn of the first loop asks a purse's record more, each turn of the second leaves an unused one less, and that is every record
 -- (`records-parts`).
 -- Assumes nothing.
-use Prim.Native.Nat.{◌<◌, ◌-◌}
+use Prim.Native.Nat.{◌<◌}
 use mathlib.Core.Path.{◌≡◌, refl, sym, ap, ◌∙◌}
 use mathlib.Core.Bool.{true, ◌&&◌}
 use lib.ListN.{length, drop}

@@ -1,7 +1,6 @@
 -- `turns::delivery::deliver` meets its contract: at number 0 the arm of the message's kind is that of `deliveredAt`, and the tests passed leave `pay` and
 -- `receive` what they require; else it is refused. Assumes nothing.
 use mathlib.Core.Path.{◌≡◌, sym, ◌∙◌}
-use mathlib.Core.Logic.{⊎_elim}
 use native.Mathlib.Omega.{arith}
 use Rattle.refusals.specs.Numbers.{deliver_number}
 use Rattle.refusals.proofs.Passed.{pay_passed, get_passed}
