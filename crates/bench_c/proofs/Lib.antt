@@ -1,3 +1,2 @@
-mod Calls
 mod Runs
 pub mod Unique

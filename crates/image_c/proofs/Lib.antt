@@ -1,3 +1,2 @@
-mod Calls
 mod Whole
 pub mod Unique
