@@ -1,11 +1,6 @@
--- `stream::write` is safe and ends. The loop's invariant: what went lies within the bytes. The measure is the number of turns left.
--- Assumes nothing.
-use Prim.Native.Nat.{◌≤◌}
-use lib.ListN.{length}
+-- What went lies within the bytes.
+use Rattle.std.proofs.Common.{◌≤◌, length}
 use Rattle.stream.proofs.write.Given as goal
 
-abbrev pub invariant-loop-turns : goal.invariant-loop-turns
-invariant-loop-turns l = l.count ≤ length l.bytes
-
-abbrev pub decreases-loop-turns : goal.decreases-loop-turns
-decreases-loop-turns l = l.turns
+abbrev pub invariant-loop : goal.invariant-loop
+invariant-loop g l = l.count ≤ length l.bytes

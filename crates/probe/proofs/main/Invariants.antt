@@ -1,9 +1,0 @@
--- `probe`'s `main` is safe and ends: its loop counts down.
--- Assumes nothing.
-use Rattle.probe.proofs.main.Given as goal
-
-abbrev pub invariant-loop-turns : goal.invariant-loop-turns
-invariant-loop-turns l = Unit {0}
-
-abbrev pub decreases-loop-turns : goal.decreases-loop-turns
-decreases-loop-turns l = l.turns

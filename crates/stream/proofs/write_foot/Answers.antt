@@ -1,9 +1,0 @@
--- `stream::write_foot` meets its contract. The lines' length lies within their buffer.
--- Assumes nothing.
-use mathlib.Core.Path.{sym}
-use lib.Seq.{length-take-le}
-use borrow.Author.Rules.{rules}
-use Rattle.stream.proofs.write_foot.Goals as goal
-
-pub slice_bounds-write-end : goal.slice_bounds-write-end
-slice_bounds-write-end c = sym (length-take-le _ _ (search rules))
