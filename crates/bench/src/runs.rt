@@ -19,6 +19,8 @@ fn smaller(a: usize, b: usize) -> usize
 
 // The first n events, at a table that is well formed; the single event too is taken here. Each is looked at (which record it means, and what
 // its tests read of the desk), what it asks for is told to the card, and what that changes is carried out.
+// Its bench is on the stack for as long as it runs, and no longer: it is not put in line.
+#[inline(never)]
 pub(crate) fn each(held: Held, input: &[u8], answers: &mut [u8], n: usize) -> Held
     requires { (held_ok held ≡ true) × (12 * n ≤ length input.now) × (n ≤ length answers.old) }
     ensures { (result ≡ held_run held (pieces n input.now)) × (answers.new ≡ held_answers held (pieces n input.now) ++ drop n answers.old) }

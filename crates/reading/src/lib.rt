@@ -42,6 +42,8 @@ fn head_number(s: &[u8]) -> u8
 }
 
 // The bench of an image whose head is right.
+// What it holds on the stack is gone when it returns: it is not put in line.
+#[inline(never)]
 fn get_bench(s: &[u8]) -> Held
     requires { first (head_tests s.now) ≡ 0 }
     ensures { result ≡ bench_in s.now }
