@@ -39,13 +39,13 @@ extern "C" {
 #define PRS_IMAGE_MAX 12042  /* bytes of the largest image */
 
 /* The stack of each entry in bytes, measured by benchmarks/run and rounded up. */
-#define PRS_STACK_CARD 1152
+#define PRS_STACK_CARD 1408
 #define PRS_STACK_OPENING 51200
-#define PRS_STACK_EVENT 52224
-#define PRS_STACK_RUN 101376
+#define PRS_STACK_EVENT 59392
+#define PRS_STACK_RUN 138240
 #define PRS_STACK_CLAIMS 83968
 #define PRS_STACK_WRITE 82944
-#define PRS_STACK_READ 107520
+#define PRS_STACK_READ 113664
 
 /* What a call answers. */
 enum prs_answer {
