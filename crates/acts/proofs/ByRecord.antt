@@ -1,4 +1,4 @@
--- The bench's step is `actOn` at the one record that the event is seen to mean, put back at its place.
+-- The bench's step is `act_on` at the one record that the event is seen to mean, put back at its place.
 -- Why: on lists laid out in their places a read, a store, a message more or less and an entry more are those of the lists (the laws of
 -- Padded), and each kind's tests are the same numbers; a refusal puts back the record that was read.
 -- Assumes nothing.

@@ -1,4 +1,4 @@
--- What is asked for, told to the card and settled, from what is seen of the desk, is the step of an event at its record (`actOn`): each is as in
+-- What is asked for, told to the card and settled, from what is seen of the desk, is the step of an event at its record (`act_on`): each is as in
 -- the definition. Assumes nothing.
 use mathlib.Core.Path.{◌≡◌}
 use Rattle.purse.specs.declared.Purse.{Purse}

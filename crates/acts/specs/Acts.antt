@@ -1,5 +1,5 @@
 -- What an event does, at a table that is well formed: it touches the desk and the one record that it means. What it asks for is told to the
--- card, at the head of the record (`toldAt`); then it is settled (`settled`). That this is the bench's step is `step-by-record`.
+-- card, at the head of the record (`told_at`); then it is settled (`settled`). That this is the bench's step is `step_by_record`.
 use Rattle.std.specs.Prelude.{ℕ, ◌+◌, Bool, cond, get_or, set, ltb, eqb}
 use Rattle.purse.specs.declared.Name.{Name}
 use Rattle.purse.specs.declared.Message.{Message}

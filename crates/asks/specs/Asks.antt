@@ -62,7 +62,7 @@ seen_with purses messages entries m e =
       message = cond (ltb (delivered_at e) places) m zero_message;
     }
 
--- the same, said of the whole desk (`seen-lent`)
+-- the same, said of the whole desk (`seen_lent`)
 abbrev pub seen_at : Desk → Event → Seen
 seen_at d e =
     record {

@@ -1,6 +1,6 @@
 -- One event of a run, where the table, the ether and the archive are kept apart: what the card made of the head of the record that the
--- event means, settled at those parts, is the step of the whole (`byRecord`).
--- Why: `byRecord` is what is asked, told, settled and put back; a refusal puts back the record that was read, and each change touches one
+-- event means, settled at those parts, is the step of the whole (`by_record`).
+-- Why: `by_record` is what is asked, told, settled and put back; a refusal puts back the record that was read, and each change touches one
 -- part.
 -- Assumes nothing.
 use Prim.Native.Nat.{ℕ}

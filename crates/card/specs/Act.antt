@@ -1,5 +1,5 @@
--- A card's step behind the test of its record: what it makes of the record's head (`turnBy`), and the record put together of that head and
--- the log (`answeredBy`). That the card's step is the record's test, and then this, is `step-by-act`.
+-- A card's step behind the test of its record: what it makes of the record's head (`turn_by`), and the record put together of that head and
+-- the log (`answered_by`). That the card's step is the record's test, and then this, is `step_by_act`.
 use Rattle.std.specs.Prelude.{List, get_or, set}
 use Rattle.purse.specs.declared.Name.{Name}
 use Rattle.purse.specs.declared.Details.{Details}

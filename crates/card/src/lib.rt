@@ -26,7 +26,7 @@ pub fn step(purse: Purse, own: Name, event: CardEvent) -> CardAnswer
     }
 }
 
-// The step behind that test, for whoever knows that the record is well formed. On another record it is some answer too (`actBy`).
+// The step behind that test, for whoever knows that the record is well formed. On another record it is some answer too (`act_by`).
 pub fn act(purse: Purse, own: Name, event: CardEvent) -> CardAnswer
     ensures { result ≡ act_by purse own event }
 {

@@ -1,5 +1,5 @@
 -- The claims figure as a pass over the entries of all logs and one over the archive make it: what each entry adds. That it is the sum over
--- the purses of their matched pairs is `claims-once`.
+-- the purses of their matched pairs is `claims_once`.
 use Rattle.std.specs.Prelude.{ℕ, Bool, ◌&&◌, ◌||◌, cond, List, map, length, get_or, leb, eqb}
 use Rattle.purse.specs.declared.Details.{Details}
 use Rattle.purse.specs.declared.Purse.{Purse}

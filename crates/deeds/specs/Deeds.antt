@@ -1,6 +1,6 @@
 -- What an event writes in a lent table and desk, place by place, so that nothing else is moved: its record, the number of purses, the place
 -- behind the messages and the place behind the entries, with both counts; a loss moves the later messages down. What an event leaves as it was is written as
--- it stood. That this is the bench's step is `deed-acts` in proofs/.
+-- it stood. That this is the bench's step is `deed_acts` in proofs/.
 use Rattle.std.specs.Prelude.{ℕ, ◌+◌, true, false, cond, get_or, set, ltb, eqb}
 use Rattle.purse.specs.declared.Message.{Message}
 use Rattle.purse.specs.declared.Purse.{Purse}

@@ -1,5 +1,5 @@
 -- The rules of a record in the parts in which the code asks them: the head, and the log's used places before its unused ones.
--- `every-split` says why two loops, one behind the other, ask every place of a list. Assumes nothing.
+-- `every_split` says why two loops, one behind the other, ask every place of a list. Assumes nothing.
 use Prim.Native.Nat.{ℕ, ◌+◌, ◌-◌, ◌≤◌, ◌<◌, min}
 use mathlib.Core.Path.{◌≡◌, sym, ◌∙◌, ap}
 use mathlib.Core.Bool.{Bool, true, false, ◌&&◌, not, or-false}

@@ -4,16 +4,13 @@
 // 255 read without refusal, and how many gave 2, 16, 17 and 18.
 #![tactic(auto)]
 
-ghost use Rattle.std.specs.Prelude.{◌≤◌, length};
+ghost use Rattle.std.specs.Prelude.{◌≤◌, length, ◌≡◌, IfOk};
 
 use bigendian::count_at;
 use desk::{Desk, Held};
 use purse::Purse;
 use std::io;
-use std::io::Read;
-
-// As many bytes of input as are looked at.
-const INPUT: u64 = 65536;
+use std::io::{ErrorKind, Read};
 
 // How many readings answered 0, 2, 16, 17 and 18.
 #[derive(Clone, Copy)]
@@ -156,8 +153,31 @@ fn all(rt: &impl Print, input: &mut [u8]) -> io::Result<()> {
     each_changed(rt, held, &mut input[from..at])
 }
 
+// Reads until the bytes are full or the input ends, and returns how many came. A proved loop has to end, and nothing says that an input
+// does: it has a number of turns that no run uses up.
+fn fill<R: Read>(from: &mut R, bytes: &mut [u8]) -> io::Result<usize>
+    ensures count_in_bounds { IfOk result (λ n. n ≤ length bytes.new) }
+    ensures bytes_len_unchanged { length bytes.new ≡ length bytes.old }
+{
+    let mut count = 0;
+    for _ in 0..u64::MAX {
+        if count == bytes.len() {
+            break;
+        }
+        match from.read(&mut bytes[count..]) {
+            Ok(0) => break,
+            Ok(came) => count += came,
+            Err(e) => match e.kind() {
+                ErrorKind::Interrupted => {}
+                _ => return Err(e),
+            },
+        }
+    }
+    Ok(count)
+}
+
 fn main(rt: HostRuntime) -> io::Result<()> {
-    let mut input = Vec::new(rt.alloc());
-    rt.stdin().take(INPUT).read_to_end(&mut input)?;
-    all(&rt, &mut input)
+    let mut input = [0u8; 65536];
+    let n = fill(&mut rt.stdin(), &mut input)?;
+    all(&rt, &mut input[..n])
 }

@@ -1,5 +1,5 @@
 -- An input may come in pieces: its opening bytes first, then its events, every piece of them but the last of whole events. The lines of
--- the pieces one after the other are then the listing of the whole (`listing-in-pieces`). Why: the opening reads no byte behind its own,
+-- the pieces one after the other are then the listing of the whole (`listing_in_pieces`). Why: the opening reads no byte behind its own,
 -- whole events before others are cut as they would be alone, and a run goes on where another ended.
 -- Assumes nothing.
 use Prim.Native.Nat.{ℕ, zero, suc, ◌+◌, ◌*◌, ◌/◌, ◌≤◌, ◌<◌}

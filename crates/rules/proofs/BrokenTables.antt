@@ -199,7 +199,7 @@ messages = replicate 256 zero_message
 abbrev entries : List Entry
 entries = replicate 256 zero_entry
 
--- as many purses, messages and entries as there are places; that it obeys the rules is `full-obeys` of crate image
+-- as many purses, messages and entries as there are places; that it obeys the rules is `full_obeys` of crate image
 abbrev pub full : Held
 full = lent (replicate 32 quiet) 32 (requests 256) 256 (logged 256) 256
 

@@ -1,5 +1,5 @@
 -- How the bench's lists lie in the lent table of 32 records and the desk's 256 and 256 places (`Held`): each list from place 0, zero
--- behind it. `heldStep` is the whole step, from a table, a desk and an event's bytes to the answer, the table and the desk: every entry's
+-- behind it. `held_step` is the whole step, from a table, a desk and an event's bytes to the answer, the table and the desk: every entry's
 -- contract cites it.
 use Rattle.std.specs.Prelude.{ℕ, Bool, ◌&&◌, not, cond, List, [], ◌∷◌, length, take, drop, leb, eqb}
 use Rattle.purse.specs.declared.Details.{Details}

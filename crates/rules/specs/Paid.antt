@@ -68,7 +68,7 @@ arrived = gathered (λ (x : Effect). x.arrived)
 abbrev pub added : Bench → List (List ℕ) → List Addition
 added = gathered (λ (x : Effect). x.added)
 
--- in all it is `total sum_of`, to purse p `addedTo p`
+-- in all it is `total sum_of`, to purse p `added_to p`
 abbrev pub sum_of : Addition → ℕ
 sum_of x = x.amount
 

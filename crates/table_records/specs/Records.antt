@@ -1,5 +1,5 @@
 -- The rules of a bench's table and desk as the code asks them: each record alone, each message and each archive entry once, beside the one
--- or two records that it names. A table and desk obey document 01's rules (`heldOk`) just where these do: `held-by-messages` of crate table.
+-- or two records that it names. A table and desk obey document 01's rules (`held_ok`) just where these do: `held_by_messages` of crate table.
 use Rattle.std.specs.Prelude.{ℕ, ◌+◌, ◌*◌, ◌%◌, Bool, ◌&&◌, ◌||◌, not, cond, List, ◌++◌, length, take, get_or, ltb, leb, eqb}
 use Rattle.purse.specs.declared.Name.{Name}
 use Rattle.purse.specs.declared.Details.{Details}

@@ -1,4 +1,4 @@
--- `card::step` meets its contract: the record's test, then the act (`step-by-act`). Assumes nothing.
+-- `card::step` meets its contract: the record's test, then the act (`step_by_act`). Assumes nothing.
 use mathlib.Core.Path.{sym, ◌∙◌}
 use Rattle.card.proofs.ByAct.{step_by_act}
 use Rattle.card.proofs.step.Goals as goal

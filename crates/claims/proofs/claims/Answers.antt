@@ -1,5 +1,5 @@
 -- `claims::claims` meets its contract: what the entries of all logs add and what those of the archive add is the sum over the purses
--- (`claims-once`), and that fits four bytes (`claims-most`).
+-- (`claims_once`), and that fits four bytes (`claims_most`).
 -- Assumes nothing.
 use Prim.Native.Nat.{◌+◌, ◌≤◌}
 use mathlib.Core.Bool.{true}

@@ -54,13 +54,13 @@ loop-own-init c = (omega arith, omega arith, (ap (λ (e : Entry). replicate 256 
 
 pub overflow_cast-count : goal.overflow_cast-count
 overflow_cast-count c =
-    let few = (fits-at (goal.at.overflow_cast-count c).Start c.loop-own.own c.loop-own-test.true).few in
+    let few = (fits-at (goal.at.overflow_cast-count c).Start c.loop-own.own (omega arith)).few in
     search rules
 
 pub loop-i-init : goal.loop-i-init
 loop-i-init c =
     let so_far = append-nil (log_entries c.loop-own.own c.args.table) in
-    ((fits-at (goal.at.loop-i-init c).Start c.loop-own.own c.loop-own-test.true).few, omega arith, omega (arith, c.loop-own.invariant.1), (c.loop-own.invariant.2.0 ∙ ap (padded 256 zero_entry) (sym so_far), c.loop-own.invariant.2.1 ∙ ap length (sym so_far)))
+    ((fits-at (goal.at.loop-i-init c).Start c.loop-own.own (omega arith)).few, omega arith, omega (arith, c.loop-own.invariant.1), (c.loop-own.invariant.2.0 ∙ ap (padded 256 zero_entry) (sym so_far), c.loop-own.invariant.2.1 ∙ ap length (sym so_far)))
 
 pub loop-i-preserved : goal.loop-i-preserved
 loop-i-preserved c =
@@ -71,7 +71,7 @@ loop-i-preserved c =
     let lie = c.loop-i.invariant.3 in
     let es : List Entry = row own l log i in
     let e : Entry = entry_by own (get_or log i zero_details) in
-    let more : row own l log (i + 1) ≡ es ++ (e ∷ []) = row_more own l log i (omega (arith, (fits-at (goal.at.loop-i-preserved c).Start c.loop-own.own c.loop-own-test.true).eight, c.loop-i.invariant.0, c.loop-i-test.true)) in (
+    let more : row own l log (i + 1) ≡ es ++ (e ∷ []) = row_more own l log i (omega (arith, (fits-at (goal.at.loop-i-preserved c).Start c.loop-own.own (omega arith)).eight, c.loop-i.invariant.0, c.loop-i-test.true)) in (
       c.loop-i.invariant.0,
       omega (arith, c.loop-i-test.true),
       omega (arith, c.loop-i.invariant.2),
@@ -86,7 +86,7 @@ loop-own-preserved c =
     let l = c.args.table in
     let own = c.loop-own.own in
     let lie = c.loop-i.invariant.3 in
-    let fits = fits-at (goal.at.loop-own-preserved c).Start c.loop-own.own c.loop-own-test.true in
+    let fits = fits-at (goal.at.loop-own-preserved c).Start c.loop-own.own (omega arith) in
     let done : c.loop-i.i ≡ (get_or l own none).logged = omega (arith, c.loop-i.invariant.1, c.loop-i-test.false) in
     let whole : row own l (get_or l own none).log c.loop-i.i ≡ log_entries (own + 1) l = row_whole own l none c.loop-i.i fits.inside done in
     (omega (arith, c.loop-own-test.true), omega (arith, c.loop-i.invariant.2, fits.few, done), (lie.0 ∙ ap (padded 256 zero_entry) whole, lie.1 ∙ ap length whole))

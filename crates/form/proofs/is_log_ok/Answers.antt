@@ -1,5 +1,5 @@
 -- `form::is_log_ok` meets its contract: each turn of the first loop asks a used place more, each turn of the second leaves an unused
--- one less, and that is the whole log (`log-parts`). Assumes nothing.
+-- one less, and that is the whole log (`log_parts`). Assumes nothing.
 use mathlib.Core.Path.{◌≡◌, refl, sym, ◌∙◌}
 use mathlib.Core.Bool.{true, ◌&&◌}
 use lib.ListN.{length, drop}

@@ -1,4 +1,4 @@
--- Where none stands the used places ask nothing; else they are asked by `collected_ok`; and the unused ones beside them (`with-unused`).
+-- Where none stands the used places ask nothing; else they are asked by `collected_ok`; and the unused ones beside them (`with_unused`).
 -- Assumes nothing.
 use mathlib.Core.Path.{◌≡◌, ◌∙◌}
 use mathlib.Core.Bool.{Bool}

@@ -7,7 +7,6 @@ use borrow.Author.Tests.{lt-ltb, le-ltb}
 use Rattle.purse.specs.declared.Message.{Message}
 use Rattle.desk.specs.declared.Ether.{Ether}
 use Rattle.desk.specs.Desk.{appended}
-use borrow.Author.Rules.{rules}
 use Rattle.desk.proofs.Ether.add.Goals as goal
 
 -- where 256 messages stand, the ether stays as it was
@@ -20,4 +19,4 @@ unfolding appended
 returns-then-count-lt256 c = rw (lt-ltb _ _ c.if-count-lt256.true)
 
 pub returns-else-count-lt256 : goal.returns-else-count-lt256
-returns-else-count-lt256 c = search (rules, as_it_was)
+returns-else-count-lt256 c = as_it_was _ _ c.if-count-lt256.false

@@ -1,4 +1,4 @@
--- `refusals::numbers::abort_number` meets its contract: two tests, taken one by one (`two-walk`). Assumes nothing.
+-- `refusals::numbers::abort_number` meets its contract: two tests, taken one by one (`two_walk`). Assumes nothing.
 use mathlib.Core.Path.{refl}
 use mathlib.Core.Bool.{◌||◌, not}
 use lib.Dec.{ltb, eqb}

@@ -1,4 +1,4 @@
--- `refusals::numbers::collect_number` meets its contract: two tests, taken one by one (`two-walk`). Assumes nothing.
+-- `refusals::numbers::collect_number` meets its contract: two tests, taken one by one (`two_walk`). Assumes nothing.
 use mathlib.Core.Path.{refl}
 use lib.Dec.{ltb, eqb}
 use Rattle.refusals.specs.Numbers.{collect_number}

@@ -1,4 +1,4 @@
--- `refusals::numbers::deliver_number` meets its contract: three tests, taken one by one (`three-walk`). Assumes nothing.
+-- `refusals::numbers::deliver_number` meets its contract: three tests, taken one by one (`three_walk`). Assumes nothing.
 use mathlib.Core.Path.{refl}
 use mathlib.Core.Bool.{not}
 use lib.Dec.{ltb}

@@ -1,4 +1,4 @@
--- `refusals::numbers::start_number` meets its contract: six tests, taken one by one (`start-walk`). Assumes nothing.
+-- `refusals::numbers::start_number` meets its contract: six tests, taken one by one (`start_walk`). Assumes nothing.
 use Rattle.refusals.proofs.Ladders.{start_walk}
 use Rattle.refusals.proofs.numbers.start_number.Goals as goal
 

@@ -1,4 +1,4 @@
--- Every field is asked, and the log's places by `is_log_unused`; the log has its eight (`zero-parts`).
+-- Every field is asked, and the log's places by `is_log_unused`; the log has its eight (`zero_parts`).
 -- Assumes nothing.
 use mathlib.Core.Path.{◌≡◌, sym}
 use lib.ListN.{length}

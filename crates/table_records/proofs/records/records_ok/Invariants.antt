@@ -1,5 +1,5 @@
 -- Each turn of the first loop asks a purse's record more, each turn of the second leaves an unused one less, and that is every record
--- (`records-parts`).
+-- (`records_parts`).
 -- Assumes nothing.
 use Prim.Native.Nat.{◌≤◌, ◌-◌}
 use mathlib.Core.Path.{◌≡◌}

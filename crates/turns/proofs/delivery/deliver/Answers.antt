@@ -1,4 +1,4 @@
--- `turns::delivery::deliver` meets its contract: at number 0 the arm of the message's kind is that of `deliveredAt`, and the tests passed leave `pay` and
+-- `turns::delivery::deliver` meets its contract: at number 0 the arm of the message's kind is that of `delivered_at`, and the tests passed leave `pay` and
 -- `receive` what they require; else it is refused. Assumes nothing.
 use mathlib.Core.Path.{◌≡◌, sym, ◌∙◌}
 use native.Mathlib.Omega.{arith}
