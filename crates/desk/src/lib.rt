@@ -12,7 +12,7 @@ use purse::{Details, Message, Name, Purse};
 
 // A log entry that the issuer has collected, and the purse that logged it.
 #[repr(C)]
-#[derive(Clone, Copy)]
+#[derive(Clone, Copy, PartialEq, Eq, Default)]
 pub struct Entry {
     pub by: Name,
     pub details: Details,

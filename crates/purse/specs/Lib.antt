@@ -4,3 +4,4 @@ pub mod Details
 pub mod Purse
 pub mod Step
 pub mod Card
+pub mod Refusals

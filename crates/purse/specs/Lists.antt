@@ -1,5 +1,6 @@
 -- Lists, over any element type: each of a number of places, each member, some member, no two the same, those kept, a sum, lists in a row, one taken out.
-use Rattle.std.specs.Prelude.{ℕ, zero, suc, ◌+◌, ◌-◌, Bool, true, false, ◌&&◌, ◌||◌, not, cond, List, [], ◌∷◌, ◌++◌, length, take, drop, replicate}
+use Rattle.std.specs.Prelude.{ℕ, zero, suc, ◌+◌, ◌-◌, Bool, true, false, ◌&&◌, ◌||◌, not, cond, List, [], ◌∷◌, ◌++◌, length, take, drop, replicate, filter}
+use Rattle.std.specs.List.{list_all, list_any}
 
 -- f holds at each of 0 .. n - 1
 abbrev pub every : ℕ → (ℕ → Bool) → Bool
@@ -8,13 +9,11 @@ every (suc n) f = every n f && f n
 
 -- f holds of each member
 abbrev pub all : {A : Type 0} → (A → Bool) → List A → Bool
-all f [] = true
-all f (x ∷ xs) = f x && all f xs
+all = list_all
 
 -- x is the same as some member
 abbrev pub among : {A : Type 0} → (A → A → Bool) → A → List A → Bool
-among same x [] = false
-among same x (y ∷ ys) = same x y || among same x ys
+among same x = list_any (same x)
 
 -- no two members are the same
 abbrev pub distinct : {A : Type 0} → (A → A → Bool) → List A → Bool
@@ -23,8 +22,7 @@ distinct same (x ∷ xs) = not (among same x xs) && distinct same xs
 
 -- the members of which f holds
 abbrev pub keep : {A : Type 0} → (A → Bool) → List A → List A
-keep f [] = []
-keep f (x ∷ xs) = cond (f x) (x ∷ keep f xs) (keep f xs)
+keep = filter
 
 -- the sum of the members' weights
 abbrev pub total : {A : Type 0} → (A → ℕ) → List A → ℕ

@@ -7,19 +7,23 @@ ghost use Rattle.purse.specs.Tests.{after};
 ghost use Rattle.purse.specs.Details.{zero_details, same_details, zero_message, same_message};
 ghost use Rattle.purse.specs.Purse.{ceiling, opened_purse, zero_purse};
 
+mod refusal; // refusal.rt: why a step is refused
+
+pub use refusal::{Refusal, refuse_if};
+
 // The place of a purse in the table, from 0.
 #[repr(C)]
-#[derive(Clone, Copy)]
+#[derive(Clone, Copy, PartialEq, Eq, Default)]
 pub struct Name(pub u8);
 
 // A sequence number.
 #[repr(C)]
-#[derive(Clone, Copy)]
+#[derive(Clone, Copy, PartialEq, Eq, Default)]
 pub struct Seq(pub u32);
 
 // An amount of money.
 #[repr(C)]
-#[derive(Clone, Copy)]
+#[derive(Clone, Copy, PartialEq, Eq, Default)]
 pub struct Amount(pub u32);
 
 impl Name {
@@ -28,7 +32,7 @@ impl Name {
 
 // Payment details.
 #[repr(C)]
-#[derive(Clone, Copy)]
+#[derive(Clone, Copy, PartialEq, Eq, Default)]
 pub struct Details {
     pub payer: Name,
     pub payerseq: Seq,
@@ -39,7 +43,7 @@ pub struct Details {
 
 // Kind 1 request, 2 value, 3 acknowledge.
 #[repr(C)]
-#[derive(Clone, Copy)]
+#[derive(Clone, Copy, PartialEq, Eq, Default)]
 pub struct Message {
     pub kind: u8,
     pub details: Details,
@@ -47,7 +51,7 @@ pub struct Message {
 
 // Status 0 idle, 1 epr, 2 epv, 3 epa; `logged` of the log's places are used.
 #[repr(C)]
-#[derive(Clone, Copy)]
+#[derive(Clone, Copy, PartialEq, Eq, Default)]
 pub struct Purse {
     pub balance: Amount,
     pub next: Seq,
