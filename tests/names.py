@@ -2,7 +2,7 @@
 """Holds README.md and docs/ to the crates, and every contract to the theorem that it leaves one result. Every link's file must be there, and
 where the link's words are a name in backquotes, the file must say that name. Every must-fail edit must have a link from docs/, and each of
 its old texts must stand once in its file. Every public function must have its row in docs/CONTRACTS.md and a contract that asks nothing and
-has one equation for its result and one for each part lent as &mut, with a right side that speaks of the arguments alone; what says more must
+has one equation for its result (a check: for its number) and one for each part lent as &mut, with a right side that speaks of the arguments alone; what says more must
 stand under the page's Exceptions. The theorem of its row must be the general law for that many equations, or one of its own that says, word
 by word and by the same definitions, that two results and contents of which the equations hold are equal. Last line 'N passed, M failed';
 exit status 1 on any failure."""
@@ -22,6 +22,8 @@ COMPARISON = re.compile(r"[\w′ .()+*/%-]+ [≡<≤] [\w′ .()+*/%-]+")
 EQUALITY = dict.fromkeys(["Rattle.std.specs.Prelude", "Rattle.std.proofs.Common"], "mathlib.Core.Path")
 LAWS = {"one": 1, "two": 2, "three": 3, "four": 4}
 LAWS_FILE = "crates/purse/proofs/Unique.antt"
+# The law of a check: its contract gives the number of its result, and each reason to refuse has its own.
+ANSWER, ANSWER_FILE = "one_answer", "crates/purse/proofs/Reasons.antt"
 NO_CONTRACT = [("crates/stream/src/lib.rt", "list"), ("crates/stream/src/failure.rt", "tell")]
 
 # A function's parameters, the left sides that its equations must have, its equations, what it compares besides, and all else in its contract.
@@ -169,7 +171,7 @@ def conjuncts(fact, used):
 def equation(fact):
     """Both sides of a fact that says by the arguments alone what the result, a field of it or a lent part is; None of another fact."""
     left, *right = parts(fact, "≡")
-    is_left = re.fullmatch(r"result|result\.\w+|\w+′", left)
+    is_left = re.fullmatch(r"(?:answer_of )?result|result\.\w+|\w+′", left)
     is_right = len(right) == 1 and re.fullmatch(r"[\w .()+*/%-]+", right[0]) and "result" not in terms(right[0])
     is_right = is_right and not re.search(r"\.(now|old|new)\b", right[0])
     return (left, right[0]) if is_left and is_right else None
@@ -224,6 +226,8 @@ def laws():
         meant = [equal((r, x) for x, r, s, _ in groups), equal((s, x) for x, r, s, _ in groups), equal((r, s) for x, r, s, _ in groups)]
         is_law = len(set(sum(groups, ()))) == 4 * number and claims == meant
         yield None if is_law else f"{LAWS_FILE}: {name} is not the law of so many equations: {number}"
+    is_law = statement(ANSWER_FILE, ANSWER) == ["{n : ℕ} {r s : Result Unit Refusal}", "answer_of r ≡ n", "answer_of s ≡ n", "r ≡ s"]
+    yield None if is_law else f"{ANSWER_FILE}: {ANSWER} is not the law of a check"
 
 
 def own(path, said, file, name):
@@ -263,7 +267,8 @@ def faults(path, name, text, rows, exceptions):
     lefts = [left for left, _ in said.equations]
     if said.rest:
         yield f"asks or says something else: {said.rest}"
-    if not lefts or sorted(lefts) != sorted(said.wanted):
+    is_check = lefts == ["answer_of result"]
+    if not lefts or sorted(lefts) != sorted(said.wanted) and not (is_check and said.wanted == ["result"]):
         yield f"has equations for: {', '.join(lefts)}; must have: {', '.join(said.wanted)}"
     if said.besides and not is_excepted:
         yield f"says besides, and does not stand under Exceptions: {said.besides[0]}"
@@ -272,7 +277,9 @@ def faults(path, name, text, rows, exceptions):
         yield "has no row with a theorem"
     for _, law, place in theorems:
         place = place.removeprefix("../")
-        if law not in LAWS:
+        if is_check:
+            yield None if (law, place) == (ANSWER, ANSWER_FILE) else f"is a check; its row has {law} of {place}"
+        elif law not in LAWS:
             yield own(path, said, place, law)
         elif place != LAWS_FILE or LAWS[law] != len(lefts):
             yield f"has so many equations: {len(lefts)}; its row has {law} of {place}"

@@ -12,5 +12,6 @@ pub mod Padded
 pub mod Refused
 pub mod Money
 pub mod Numbers
+pub mod Reasons
 pub mod Unique
 pub mod Edges
