@@ -1,6 +1,6 @@
 -- What an event asks for, at a table that is well formed: the one record that it means, the message that it delivers, and the tests that
 -- read the desk, in the documents' order for each kind (`asked`). Those that read one purse alone are the card's, behind them.
-use Rattle.std.specs.Prelude.{ℕ, Bool, not, cond, List, [], ◌∷◌, get_or, ltb, leb, eqb}
+use Rattle.std.specs.Prelude.{ℕ, Bool, not, cond, List, [], ◌∷◌, get_or, ltb, leb, eqb, Result, Ok, Err}
 use Rattle.purse.specs.declared.Name.{Name}
 use Rattle.purse.specs.declared.Amount.{Amount}
 use Rattle.purse.specs.declared.Message.{Message}
@@ -9,6 +9,8 @@ use Rattle.purse.specs.declared.CardEvent.TheVariants as card
 use Rattle.purse.specs.Tests.{Test, ◌⇒◌, first}
 use Rattle.purse.specs.Details.{last_name, zero_message}
 use Rattle.purse.specs.Purse.{ceiling}
+use Rattle.purse.specs.declared.refusal.Refusal.{Refusal}
+use Rattle.purse.specs.Refusals.{number_of}
 use Rattle.desk.specs.declared.Desk.{Desk}
 use Rattle.desk.specs.Desk.{places}
 use Rattle.rules.specs.declared.Event.{Event}
@@ -132,3 +134,8 @@ asked s (Lose i) = to_lose (first (lose_tests s.messages i)) i
 asked s (Collect own) = to_collect (first (purse_tests s.purses own)) own s.entries
 asked s (Issue class v) = to_issue (first (issue_tests s.purses class v)) v
 asked s (Load own a) = to_tell (first (purse_tests s.purses own)) own (card.Load a)
+
+-- what an event asks for, or the number of why it is refused
+abbrev pub answering : Result Asked Refusal → Asked
+answering (Ok a) = a
+answering (Err why) = asks.Refused (number_of why)

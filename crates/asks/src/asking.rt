@@ -1,41 +1,38 @@
 // What an event asks for: the tests that read the desk, in the documents' order.
 ghost use Rattle.std.specs.Prelude.{◌≡◌};
+ghost use Rattle.purse.specs.Refusals.{answer_of};
 ghost use Rattle.purse.specs.Tests.{first};
 ghost use Rattle.rules.specs.Steps.{class_ok};
-ghost use Rattle.asks.specs.Asks.{start_tests, deliver_tests, purse_tests, lose_tests, issue_tests, to_tell, to_collect, to_lose, to_issue, asked};
+ghost use Rattle.asks.specs.Asks.{start_tests, deliver_tests, purse_tests, lose_tests, issue_tests, answering, asked};
 
 use crate::{Asked, Seen};
-use purse::{Amount, CardEvent, Name, Purse, tested};
+use purse::{Amount, CardEvent, Name, Purse, Refusal, refuse_if};
 use rules::Event;
 
-fn start_number(purses: u8, own: Name, other: Name) -> u8
-    ensures { result ≡ first (start_tests purses own other) }
+fn check_purse(purses: u8, own: Name) -> Result<(), Refusal>
+    ensures { answer_of result ≡ first (purse_tests purses own) }
 {
-    let n = tested(0, purses <= own.0, 4); // the purse first
-    let n = tested(n, purses <= other.0, 6); // then its counterparty
-    n
+    refuse_if(purses <= own.0, Refusal::NoPurse)
 }
 
-fn deliver_number(purses: u8, messages: u16, own: Name, place: u32) -> u8
-    ensures { result ≡ first (deliver_tests purses messages own place) }
+fn check_start(purses: u8, own: Name, other: Name) -> Result<(), Refusal>
+    ensures { answer_of result ≡ first (start_tests purses own other) }
 {
-    let n = tested(0, purses <= own.0, 4);
-    let stand = messages as u32;
-    let n = tested(n, stand <= place, 5);
-    n
+    check_purse(purses, own)?; // the purse first, then its counterparty
+    refuse_if(purses <= other.0, Refusal::BadCounterparty)
 }
 
-fn purse_number(purses: u8, own: Name) -> u8
-    ensures { result ≡ first (purse_tests purses own) }
+fn check_lose(messages: u16, place: u32) -> Result<(), Refusal>
+    ensures { answer_of result ≡ first (lose_tests messages place) }
 {
-    tested(0, purses <= own.0, 4)
+    refuse_if(u32::from(messages) <= place, Refusal::NoMessage)
 }
 
-fn lose_number(messages: u16, place: u32) -> u8
-    ensures { result ≡ first (lose_tests messages place) }
+fn check_deliver(purses: u8, messages: u16, own: Name, place: u32) -> Result<(), Refusal>
+    ensures { answer_of result ≡ first (deliver_tests purses messages own place) }
 {
-    let stand = messages as u32;
-    tested(0, stand <= place, 5)
+    check_purse(purses, own)?;
+    check_lose(messages, place)
 }
 
 // Class 0, a person: the one class until A2.
@@ -45,77 +42,35 @@ fn class_ok(class: u8) -> bool
     class == 0
 }
 
-fn issue_number(purses: u8, class: u8, balance: Amount) -> u8
-    ensures { result ≡ first (issue_tests purses class balance) }
+fn check_issue(purses: u8, class: u8, balance: Amount) -> Result<(), Refusal>
+    ensures { answer_of result ≡ first (issue_tests purses class balance) }
 {
-    let full = 32 <= purses;
-    let bad = !class_ok(class);
-    let above = Purse::MAX_BALANCE.0 < balance.0;
-    let n = tested(0, full, 24);
-    let n = tested(n, bad, 22);
-    let n = tested(n, above, 21);
-    n
+    refuse_if(32 <= purses, Refusal::TableFull)?;
+    refuse_if(!class_ok(class), Refusal::BadClass)?;
+    refuse_if(
+        Purse::MAX_BALANCE.0 < balance.0,
+        Refusal::BalanceAboveCeiling,
+    )
 }
 
-// The card is told, where no test before found a number.
-fn telling(n: u8, own: Name, event: CardEvent) -> Asked
-    ensures { result ≡ to_tell n own event }
-{
-    if n == 0 {
-        Asked::Tell { own, event }
-    } else {
-        Asked::Refused(n)
-    }
-}
-
-// The card is told to collect, likewise; the archive is full with 256 entries.
-fn collecting(n: u8, own: Name, entries: u16) -> Asked
-    ensures { result ≡ to_collect n own entries }
-{
-    if n == 0 {
-        let full = 256 <= entries;
-        Asked::Collect { own, full }
-    } else {
-        Asked::Refused(n)
-    }
-}
-
-// The message at a place goes, likewise.
-fn losing(n: u8, place: u32) -> Asked
-    ensures { result ≡ to_lose n place }
-{
-    if n == 0 {
-        Asked::Lose(place)
-    } else {
-        Asked::Refused(n)
-    }
-}
-
-// A purse is issued, likewise.
-fn issuing(n: u8, balance: Amount) -> Asked
-    ensures { result ≡ to_issue n balance }
-{
-    if n == 0 {
-        Asked::Issue(balance)
-    } else {
-        Asked::Refused(n)
-    }
-}
-
-// What an event asks for, by what is seen of the desk.
-pub fn ask(seen: Seen, event: Event) -> Asked
-    ensures { result ≡ asked seen event }
+// What an event asks for, or why it is refused, by what is seen of the desk. The archive is full with 256 entries.
+#[tactic(auto, using(purse::proofs::Refusals::not_done), unfolding(crate::specs::Asks::to_tell, crate::specs::Asks::to_collect, crate::specs::Asks::to_lose, crate::specs::Asks::to_issue, crate::specs::Asks::asked))]
+fn asks_for(seen: Seen, event: Event) -> Result<Asked, Refusal>
+    ensures { answering result ≡ asked seen event }
 {
     match event {
-        Event::Malformed => Asked::Refused(3),
+        Event::Malformed => Err(Refusal::BadEvent),
         Event::StartFrom {
             purse,
             other,
             seq,
             amount,
         } => {
-            let n = start_number(seen.purses, purse, other);
-            telling(n, purse, CardEvent::StartFrom { other, seq, amount })
+            check_start(seen.purses, purse, other)?;
+            Ok(Asked::Tell {
+                own: purse,
+                event: CardEvent::StartFrom { other, seq, amount },
+            })
         }
         Event::StartTo {
             purse,
@@ -123,30 +78,57 @@ pub fn ask(seen: Seen, event: Event) -> Asked
             seq,
             amount,
         } => {
-            let n = start_number(seen.purses, purse, other);
-            telling(n, purse, CardEvent::StartTo { other, seq, amount })
+            check_start(seen.purses, purse, other)?;
+            Ok(Asked::Tell {
+                own: purse,
+                event: CardEvent::StartTo { other, seq, amount },
+            })
         }
         Event::Deliver { purse, place } => {
-            let n = deliver_number(seen.purses, seen.messages, purse, place);
-            let m = seen.message;
-            telling(n, purse, CardEvent::Deliver(m))
+            check_deliver(seen.purses, seen.messages, purse, place)?;
+            Ok(Asked::Tell {
+                own: purse,
+                event: CardEvent::Deliver(seen.message),
+            })
         }
         Event::Abort { purse } => {
-            let n = purse_number(seen.purses, purse);
-            telling(n, purse, CardEvent::Abort)
+            check_purse(seen.purses, purse)?;
+            Ok(Asked::Tell {
+                own: purse,
+                event: CardEvent::Abort,
+            })
         }
-        Event::Lose { place } => losing(lose_number(seen.messages, place), place),
+        Event::Lose { place } => {
+            check_lose(seen.messages, place)?;
+            Ok(Asked::Lose(place))
+        }
         Event::Collect { purse } => {
-            let n = purse_number(seen.purses, purse);
-            collecting(n, purse, seen.entries)
+            check_purse(seen.purses, purse)?;
+            Ok(Asked::Collect {
+                own: purse,
+                full: 256 <= seen.entries,
+            })
         }
         Event::Issue { class, balance } => {
-            let n = issue_number(seen.purses, class, balance);
-            issuing(n, balance)
+            check_issue(seen.purses, class, balance)?;
+            Ok(Asked::Issue(balance))
         }
         Event::Load { purse, amount } => {
-            let n = purse_number(seen.purses, purse);
-            telling(n, purse, CardEvent::Load(amount))
+            check_purse(seen.purses, purse)?;
+            Ok(Asked::Tell {
+                own: purse,
+                event: CardEvent::Load(amount),
+            })
         }
+    }
+}
+
+// The same with the refusal's number, where it is refused.
+pub fn ask(seen: Seen, event: Event) -> Asked
+    ensures { result ≡ asked seen event }
+{
+    match asks_for(seen, event) {
+        Ok(asked) => asked,
+        Err(why) => Asked::Refused(u8::from(why)),
     }
 }

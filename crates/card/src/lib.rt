@@ -7,7 +7,7 @@ ghost use Rattle.purse.specs.Card.{step_by};
 ghost use Rattle.card.specs.Act.{act_by};
 
 use form::well_formed;
-use purse::{CardAnswer, CardEvent, Name, Purse};
+use purse::{CardAnswer, CardEvent, Name, Purse, Refusal};
 use refusals::Head;
 use turns::turn;
 
@@ -16,13 +16,14 @@ mod log; // log.rt: the record put together: its new head, and its log
 pub use log::{oldest, record};
 
 // The card's whole step, on its record by value: the record is tested first.
+#[tactic(auto, using(crate::proofs::ByAct::step_by_act))]
 pub fn step(purse: Purse, own: Name, event: CardEvent) -> CardAnswer
     ensures { result ≡ step_by purse own event }
 {
     if well_formed(purse, own) {
         act(purse, own, event)
     } else {
-        log::refused(purse, 2)
+        log::refused(purse, Refusal::NotWellFormed)
     }
 }
 
@@ -30,5 +31,5 @@ pub fn step(purse: Purse, own: Name, event: CardEvent) -> CardAnswer
 pub fn act(purse: Purse, own: Name, event: CardEvent) -> CardAnswer
     ensures { result ≡ act_by purse own event }
 {
-    log::answered(purse, turn(Head::of(purse), own, event))
+    log::answered(purse, turn(Head::from(purse), own, event))
 }

@@ -10,7 +10,7 @@ ghost use Rattle.form.specs.Form.{headed, logging, unused, head_ok};
 
 use purse::{Details, Name, Purse, Seq};
 use refusals::Head;
-use refusals::numbers::is_legal;
+use refusals::checks::is_legal;
 
 // Two different purses, names 0 to 31, and a legal amount.
 pub fn is_named(d: Details) -> bool
@@ -160,7 +160,7 @@ pub fn well_formed(p: Purse, own: Name) -> bool
 {
     let next = p.next;
     let running = p.details;
-    let h = Head::of(p);
+    let h = Head::from(p);
     let head = is_head_ok(h, own);
     if p.logged == 0 {
         let log = p.log;

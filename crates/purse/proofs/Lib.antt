@@ -15,3 +15,4 @@ pub mod Numbers
 pub mod Reasons
 pub mod Unique
 pub mod Edges
+pub mod Refusals

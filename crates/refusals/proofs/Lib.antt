@@ -1,4 +1,2 @@
-pub mod Cases
-pub mod Ladders
 pub mod Passed
 pub mod SameNumbers

@@ -5,21 +5,17 @@ ghost use Rattle.refusals.specs.Heads.{head_of};
 use crate::Head;
 use purse::Purse;
 
-impl Head {
-    pub fn of(p: Purse) -> Head
-        ensures { result ≡ head_of p }
-    {
-        let balance = p.balance;
-        let next = p.next;
-        let details = p.details;
-        let most = p.ceiling();
+impl From<Purse> for Head {
+    ghost from_gives = { λ p head. head ≡ head_of p };
+
+    fn from(p: Purse) -> Head {
         Head {
-            balance: balance,
-            next: next,
-            details: details,
+            balance: p.balance,
+            next: p.next,
+            details: p.details,
             status: p.status,
             logged: p.logged,
-            most: most,
+            most: p.ceiling(),
         }
     }
 }

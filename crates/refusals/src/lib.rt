@@ -3,7 +3,7 @@
 
 use purse::{Amount, Details, Seq};
 
-pub mod numbers; // numbers.rt: the number that refuses a step, or 0
+pub mod checks; // checks.rt: the tests that refuse a step
 mod heads; // heads.rt: the head of a record
 
 // The head of a record: a purse without its log, and `most`, the ceiling of its balance. A step's tests read nothing else, and most steps

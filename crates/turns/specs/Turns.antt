@@ -1,5 +1,5 @@
 -- What a card's step behind the test of its record makes of the record's head, each step as in purse/specs/Step; the log is not read.
-use Rattle.std.specs.Prelude.{ℕ, ◌+◌, ◌-◌, cond, eqb}
+use Rattle.std.specs.Prelude.{ℕ, ◌+◌, ◌-◌, cond, eqb, Result, Ok, Err}
 use Rattle.purse.specs.declared.Name.{Name}
 use Rattle.purse.specs.declared.Seq.{Seq}
 use Rattle.purse.specs.declared.Amount.{Amount}
@@ -9,6 +9,8 @@ use Rattle.purse.specs.declared.CardEvent.{CardEvent}
 use Rattle.purse.specs.declared.CardEvent.TheVariants.{StartFrom, StartTo, Deliver, Abort, Collect, Load}
 use Rattle.purse.specs.Details.{request, value, acknowledge, zero_details, zero_message}
 use Rattle.purse.specs.Purse.{idle, epr, epv, epa}
+use Rattle.purse.specs.declared.refusal.Refusal.{Refusal}
+use Rattle.purse.specs.Refusals.{number_of}
 use Rattle.refusals.specs.declared.Head.{Head}
 use Rattle.refusals.specs.Numbers.{from_number, to_number, deliver_number, abort_number, collect_number, load_number}
 use Rattle.turns.specs.declared.LogChange.{LogChange}
@@ -26,6 +28,11 @@ done_at h l m = record { head = h; message = m; answer = 0; log = l }
 -- done where no test applies, else refused by the first that does
 abbrev pub unless_at : ℕ → Head → Turned → Turned
 unless_at n h t = cond (eqb n 0) t (refused_at n h)
+
+-- what a step makes of a head, done or refused
+abbrev pub turned : Head → Result Turned Refusal → Turned
+turned h (Ok t) = t
+turned h (Err why) = refused_at (number_of why) h
 
 -- busy with a transfer of the purse's own next number, which grows by 1
 abbrev pub begun_at : ℕ → Details → Head → Head

@@ -1,28 +1,29 @@
 // A message delivered: the one that the purse waits for, or refused.
 ghost use Rattle.std.specs.Prelude.{◌≡◌, ◌+◌, ◌≤◌};
-ghost use Rattle.turns.specs.Turns.{paid_at, received_at, settled_at, turn_deliver};
+ghost use Rattle.turns.specs.Turns.{paid_at, received_at, settled_at, turned, turn_deliver};
 
-use super::done::{idle, quiet, refused, sends};
+use super::done::{idle, quiet, sends};
 use crate::{LogChange, Turned};
-use purse::{Amount, Message, Name};
+use purse::{Amount, Message, Name, Refusal};
 use refusals::Head;
-use refusals::numbers::deliver_number;
+use refusals::checks::check_deliver;
 
 // A request: the balance falls, and the value is sent.
 fn pay(h: Head) -> Turned
     requires { h.details.amount.0 ≤ h.balance.0 }
     ensures { result ≡ paid_at h }
 {
-    let d = h.details;
-    let b = Amount(h.balance.0 - d.amount.0);
-    let m = Message {
-        kind: 2,
-        details: d,
-    };
-    let mut q = h;
-    q.balance = b;
-    q.status = 3;
-    sends(q, m)
+    let details = h.details;
+    let balance = Amount(h.balance.0 - details.amount.0);
+    let value = Message { kind: 2, details };
+    sends(
+        Head {
+            balance,
+            status: 3,
+            ..h
+        },
+        value,
+    )
 }
 
 // A value: the balance rises, and the acknowledge is sent.
@@ -30,13 +31,10 @@ fn receive(h: Head) -> Turned
     requires { h.balance.0 + h.details.amount.0 ≤ h.most.0 }
     ensures { result ≡ received_at h }
 {
-    let d = h.details;
-    let b = Amount(h.balance.0 + d.amount.0);
-    let m = Message {
-        kind: 3,
-        details: d,
-    };
-    sends(idle(h, b), m)
+    let details = h.details;
+    let balance = Amount(h.balance.0 + details.amount.0);
+    let acknowledge = Message { kind: 3, details };
+    sends(idle(h, balance), acknowledge)
 }
 
 // An acknowledge: idle.
@@ -47,19 +45,14 @@ fn settle(h: Head) -> Turned
 }
 
 // The purse gets a message; one that it does not wait for is refused.
-pub(crate) fn deliver(h: Head, own: Name, m: Message) -> Turned
-    ensures { result ≡ turn_deliver h own m }
+#[tactic(auto, using(refusals::proofs::Passed::pay_passed, refusals::proofs::Passed::get_passed, purse::proofs::Refusals::not_done), unfolding(crate::specs::Turns::turn_deliver))]
+pub(crate) fn deliver(h: Head, own: Name, m: Message) -> Result<Turned, Refusal>
+    ensures { turned h result ≡ turn_deliver h own m }
 {
-    let n = deliver_number(h, own, m);
-    let is_taken = n == 0;
-    if is_taken {
-        let kind = m.kind;
-        match kind {
-            1 => pay(h),
-            2 => receive(h),
-            0 | 3..=255 => settle(h), // of these `deliver_number` lets 3 by, the acknowledge
-        }
-    } else {
-        refused(h, n)
-    }
+    check_deliver(h, own, m)?;
+    Ok(match m.kind {
+        1 => pay(h),
+        2 => receive(h),
+        0 | 3..=255 => settle(h), // of these `check_deliver` lets 3 by, the acknowledge
+    })
 }

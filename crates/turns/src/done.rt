@@ -1,46 +1,47 @@
 // What a step makes of a head: refused or done, and the purse idle again.
 ghost use Rattle.std.specs.Prelude.{◌≡◌};
 ghost use Rattle.purse.specs.Details.{zero_message};
+ghost use Rattle.purse.specs.Refusals.{number_of};
 ghost use Rattle.turns.specs.declared.LogChange.TheVariants.{Nothing};
 ghost use Rattle.turns.specs.Turns.{refused_at, done_at, idle_at};
 
 use crate::{LogChange, Turned};
-use purse::{Amount, Details, Message};
+use purse::{Amount, Details, Message, Refusal};
 use refusals::Head;
 
 // Refused: the head as it was, the log too, and nothing sent.
-pub(crate) fn refused(h: Head, n: u8) -> Turned
-    ensures { result ≡ refused_at n h }
+pub(crate) fn refused(head: Head, why: Refusal) -> Turned
+    ensures { result ≡ refused_at (number_of why) head }
 {
     Turned {
-        answer: n,
-        head: h,
+        answer: u8::from(why),
+        head,
         log: LogChange::Nothing,
-        message: Message::zero(),
+        message: Message::default(),
     }
 }
 
 // Done, with a message to send; the log stays.
-pub(crate) fn sends(h: Head, m: Message) -> Turned
-    ensures { result ≡ done_at h Nothing m }
+pub(crate) fn sends(head: Head, message: Message) -> Turned
+    ensures { result ≡ done_at head Nothing message }
 {
     Turned {
         answer: 0,
-        head: h,
+        head,
         log: LogChange::Nothing,
-        message: m,
+        message,
     }
 }
 
 // Done, with nothing sent.
-pub(crate) fn quiet(h: Head, log: LogChange) -> Turned
-    ensures { result ≡ done_at h log zero_message }
+pub(crate) fn quiet(head: Head, log: LogChange) -> Turned
+    ensures { result ≡ done_at head log zero_message }
 {
     Turned {
         answer: 0,
-        head: h,
-        log: log,
-        message: Message::zero(),
+        head,
+        log,
+        message: Message::default(),
     }
 }
 
@@ -48,10 +49,10 @@ pub(crate) fn quiet(h: Head, log: LogChange) -> Turned
 pub(crate) fn idle(h: Head, balance: Amount) -> Head
     ensures { result ≡ idle_at balance h }
 {
-    let z = Details::zero();
-    let mut q = h;
-    q.balance = balance;
-    q.status = 0;
-    q.details = z;
-    q
+    Head {
+        balance,
+        status: 0,
+        details: Details::default(),
+        ..h
+    }
 }

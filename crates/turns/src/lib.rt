@@ -2,9 +2,9 @@
 #![tactic(auto)]
 
 ghost use Rattle.std.specs.Prelude.{◌≡◌};
-ghost use Rattle.turns.specs.Turns.{turn_by};
+ghost use Rattle.turns.specs.Turns.{turned, turn_by};
 
-use purse::{CardEvent, Message, Name};
+use purse::{CardEvent, Message, Name, Refusal};
 use refusals::Head;
 
 mod done; // done.rt: refused or done, and the purse idle again
@@ -30,9 +30,9 @@ pub struct Turned {
     pub log: LogChange,
 }
 
-// The step, by the event.
-pub fn turn(head: Head, own: Name, event: CardEvent) -> Turned
-    ensures { result ≡ turn_by head own event }
+// The step, by the event: done, or why it is refused.
+fn step(head: Head, own: Name, event: CardEvent) -> Result<Turned, Refusal>
+    ensures { turned head result ≡ turn_by head own event }
 {
     match event {
         CardEvent::StartFrom { other, seq, amount } => {
@@ -45,5 +45,15 @@ pub fn turn(head: Head, own: Name, event: CardEvent) -> Turned
         CardEvent::Abort => ends::abort(head, own),
         CardEvent::Collect => ends::collect(head, own),
         CardEvent::Load(amount) => loads::load(head, own, amount),
+    }
+}
+
+// The step, a refused one too: it leaves the head as it was.
+pub fn turn(head: Head, own: Name, event: CardEvent) -> Turned
+    ensures { result ≡ turn_by head own event }
+{
+    match step(head, own, event) {
+        Ok(done) => done,
+        Err(why) => done::refused(head, why),
     }
 }

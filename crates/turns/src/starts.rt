@@ -1,92 +1,81 @@
 // The two starts: a purse becomes payer or payee.
 ghost use Rattle.std.specs.Prelude.{◌≡◌};
-ghost use Rattle.purse.specs.Details.{request};
-ghost use Rattle.purse.specs.Purse.{epv};
-ghost use Rattle.turns.specs.declared.LogChange.TheVariants.{Nothing};
-ghost use Rattle.turns.specs.Turns.{done_at, begun_at, from_details, to_details, turn_from, turn_to};
+ghost use Rattle.turns.specs.Turns.{begun_at, from_details, to_details, turned, turn_from, turn_to};
 
-use super::done::{quiet, refused, sends};
+use super::done::{quiet, sends};
 use crate::{LogChange, Turned};
-use purse::{Amount, Details, Message, Name, Seq};
+use purse::{Amount, Details, Message, Name, Refusal, Seq};
 use refusals::Head;
-use refusals::numbers::{from_number, to_number};
+use refusals::checks::{check_from, check_to};
 
 // Busy with a transfer of the purse's next number, which grows by 1.
-fn begun(h: Head, status: u8, d: Details) -> Head
+fn begun(h: Head, status: u8, details: Details) -> Head
     requires { h.next.0 ≡ 4294967295 → ⊥ }
-    ensures { result ≡ begun_at status d h }
+    ensures { result ≡ begun_at status details h }
 {
-    let n = Seq(h.next.0 + 1);
-    let mut q = h;
-    q.next = n;
-    q.status = status;
-    q.details = d;
-    q
+    Head {
+        next: Seq(h.next.0 + 1),
+        status,
+        details,
+        ..h
+    }
 }
 
 // The details of a payer, with its next number.
-pub(crate) fn from_details(h: Head, own: Name, other: Name, seq: Seq, amount: Amount) -> Details
+fn from_details(h: Head, own: Name, other: Name, seq: Seq, amount: Amount) -> Details
     ensures { result ≡ from_details h own other seq amount }
 {
-    let next = h.next;
     Details {
         payer: own,
-        payerseq: next,
+        payerseq: h.next,
         payee: other,
         payeeseq: seq,
-        amount: amount,
+        amount,
     }
 }
 
 // The details of a payee, with its next number.
-pub(crate) fn to_details(h: Head, own: Name, other: Name, seq: Seq, amount: Amount) -> Details
+fn to_details(h: Head, own: Name, other: Name, seq: Seq, amount: Amount) -> Details
     ensures { result ≡ to_details h own other seq amount }
 {
-    let next = h.next;
     Details {
         payer: other,
         payerseq: seq,
         payee: own,
-        payeeseq: next,
-        amount: amount,
+        payeeseq: h.next,
+        amount,
     }
-}
-
-// Busy as the payee, and the request sent.
-fn asks(h: Head, d: Details) -> Turned
-    requires { h.next.0 ≡ 4294967295 → ⊥ }
-    ensures { result ≡ done_at (begun_at epv d h) Nothing (record { kind = request; details = d }) }
-{
-    let m = Message {
-        kind: 1,
-        details: d,
-    };
-    sends(begun(h, 2, d), m)
 }
 
 // The purse becomes payer; it waits for the request.
-pub(crate) fn start_from(h: Head, own: Name, other: Name, seq: Seq, amount: Amount) -> Turned
-    ensures { result ≡ turn_from h own other seq amount }
+#[tactic(auto, using(refusals::proofs::Passed::from_passed, purse::proofs::Refusals::not_done), unfolding(crate::specs::Turns::turn_from))]
+pub(crate) fn start_from(
+    h: Head,
+    own: Name,
+    other: Name,
+    seq: Seq,
+    amount: Amount,
+) -> Result<Turned, Refusal>
+    ensures { turned h result ≡ turn_from h own other seq amount }
 {
-    let n = from_number(h, own, other, amount);
-    if n == 0 {
-        quiet(
-            begun(h, 1, from_details(h, own, other, seq, amount)),
-            LogChange::Nothing,
-        )
-    } else {
-        refused(h, n)
-    }
+    check_from(h, own, other, amount)?;
+    let details = from_details(h, own, other, seq, amount);
+    Ok(quiet(begun(h, 1, details), LogChange::Nothing))
 }
 
 // The purse becomes payee; it sends the request and waits for the value.
-pub(crate) fn start_to(h: Head, own: Name, other: Name, seq: Seq, amount: Amount) -> Turned
-    ensures { result ≡ turn_to h own other seq amount }
+#[tactic(auto, using(refusals::proofs::Passed::to_passed, purse::proofs::Refusals::not_done), unfolding(crate::specs::Turns::turn_to))]
+pub(crate) fn start_to(
+    h: Head,
+    own: Name,
+    other: Name,
+    seq: Seq,
+    amount: Amount,
+) -> Result<Turned, Refusal>
+    ensures { turned h result ≡ turn_to h own other seq amount }
 {
-    let n = to_number(h, own, other, amount);
-    if n == 0 {
-        asks(h, to_details(h, own, other, seq, amount))
-    } else {
-        refused(h, n)
-    }
+    check_to(h, own, other, amount)?;
+    let details = to_details(h, own, other, seq, amount);
+    let request = Message { kind: 1, details };
+    Ok(sends(begun(h, 2, details), request))
 }

@@ -3,14 +3,10 @@
 use Rattle.rules.specs.Bench.{opened_at}
 use Rattle.purse.specs.Purse.{zero_purse}
 use Rattle.purse.specs.Lists.{padded}
-use lib.ListN.{length, take}
+use lib.ListN.{take}
 use mathlib.Core.List.{map}
-use Prim.Native.Nat.{◌-◌, ◌≤◌}
 use mathlib.Core.Path.{◌≡◌}
 use Rattle.opens.proofs.opened.Given as goal
 
 abbrev pub invariant-loop-i : goal.invariant-loop-i
-invariant-loop-i l = (l.i ≤ length l.balances) × (l.table ≡ padded 32 zero_purse (map opened_at (take l.i l.balances)))
-
-abbrev pub decreases-loop-i : goal.decreases-loop-i
-decreases-loop-i l = length l.balances - l.i
+invariant-loop-i l = l.table ≡ padded 32 zero_purse (map opened_at (take l.i l.balances))
