@@ -14,3 +14,4 @@ pub mod Money
 pub mod Numbers
 pub mod Unique
 pub mod Edges
+pub mod Equal
