@@ -1,1 +1,2 @@
-pub mod Moved
+mod Moved
+pub mod Equal

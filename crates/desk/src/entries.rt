@@ -2,28 +2,21 @@
 ghost use Rattle.std.specs.Prelude.{◌≡◌};
 ghost use Rattle.desk.specs.Desk.{zero_entry, same_entry, empty_archive, stored};
 
-use crate::{Archive, Entry};
-use purse::{Details, Name};
+use crate::{Archive, Entry, append};
 
 impl Entry {
     pub fn zero() -> Entry
         ensures { result ≡ zero_entry }
     {
-        Entry {
-            by: Name(0),
-            details: Details::zero(),
-        }
+        Entry::default()
     }
 
     // Whether two entries agree in logging purse and details.
+    #[tactic(auto, using(crate::proofs::Equal::equal_entries))]
     pub fn same(self, other: Entry) -> bool
         ensures { result ≡ same_entry self other }
     {
-        if self.details.same(other.details) {
-            self.by.0 == other.by.0
-        } else {
-            false
-        }
+        self == other
     }
 }
 
@@ -31,27 +24,19 @@ impl Archive {
     pub fn empty() -> Archive
         ensures { result ≡ empty_archive }
     {
-        let e = Entry::zero();
-        let places = [e; 256];
         Archive {
-            places: places,
+            places: [Entry::default(); 256],
             count: 0,
         }
     }
 
     // The entry at the end of the others, while there is room.
+    #[tactic(auto, unfolding(crate::specs::Desk::stored))]
     pub fn store(self, e: Entry) -> Archive
         ensures { result ≡ stored self e }
     {
-        let count = self.count;
-        if count < 256 {
-            let at = count as usize;
-            let mut next = self;
-            next.places[at] = e;
-            next.count = count + 1;
-            next
-        } else {
-            self
-        }
+        let mut next = self;
+        append(&mut next.places, &mut next.count, e);
+        next
     }
 }

@@ -1,12 +1,12 @@
 // What the bench holds beside its table of purses: the ether (the messages that stand), the issuer's archive, and the purse count.
-// Each changes by value: a method takes it and hands back its next state.
+// Document 01 has each change by value: a method takes it and hands back its next state.
 #![tactic(auto)]
 
 mod entries;
 mod messages;
 
-ghost use Rattle.std.specs.Prelude.{◌≡◌};
-ghost use Rattle.desk.specs.Desk.{opened_desk};
+ghost use Rattle.std.specs.Prelude.{◌≡◌, ◌+◌, cond, ltb, set};
+ghost use Rattle.desk.specs.Desk.{places, opened_desk};
 
 use purse::{Details, Message, Name, Purse};
 
@@ -79,12 +79,24 @@ impl Desk {
     pub fn opened(purses: u8) -> Desk
         ensures { result ≡ opened_desk purses }
     {
-        let ether = Ether::empty();
-        let archive = Archive::empty();
         Desk {
-            purses: purses,
-            ether: ether,
-            archive: archive,
+            purses,
+            ether: Ether::empty(),
+            archive: Archive::empty(),
         }
     }
+}
+
+// An item in the first unused place, and one more in the count, while there is room; whether there was.
+fn append<T: Copy>(items: &mut [T; 256], count: &mut u16, item: T) -> bool
+    ensures { (result ≡ ltb count.old places)
+        × (items.new ≡ cond (ltb count.old places) (set items.old count.old item) items.old)
+        × (count.new ≡ cond (ltb count.old places) (count.old + 1) count.old) }
+{
+    let room = *count < 256;
+    if room {
+        items[*count as usize] = item;
+        *count += 1;
+    }
+    room
 }

@@ -16,3 +16,4 @@ pub mod Reasons
 pub mod Unique
 pub mod Edges
 pub mod Refusals
+pub mod Equal
