@@ -1,22 +1,16 @@
--- A number's digits, by whether it has one digit or more.
+-- A number's digits are those that the library writes.
 -- Assumes nothing.
-use mathlib.Core.Path.{◌≡◌, refl}
-use Prim.Native.Nat.{ℕ, zero, suc, ◌-◌, ◌/◌, ◌%◌, ◌<◌, ◌≤◌}
+use mathlib.Core.Path.{◌≡◌, sym}
+use Prim.Native.Nat.{ℕ, ◌^◌, ◌<◌}
 use native.Mathlib.Omega.{arith}
-use mathlib.Core.List.{[], ◌∷◌, ◌++◌}
 use borrow.Author.Tests.{lt-ltb, le-ltb}
-use Rattle.lines.specs.Text.{digit, digits}
+use Rattle.std.specs.Fmt.{decimal as decimal_text}
+use Rattle.std.proofs.lemmas.Fmt.{AppendsLastDigit, decimal_from_appends, length-decimal-le}
+use Rattle.lines.specs.Text.{digits, decimal}
 
-pub digits_none : (k n : ℕ) → k ≡ 0 → digits k n ≡ []
+by_last_digit : AppendsLastDigit digits
 unfolding digits
-digits_none k n e = rw e
+by_last_digit = record { one = λ k n h. simp (lt-ltb n 10 h); more = λ k n h. simp (le-ltb n 10 h) }
 
-pub digits_one : (k n : ℕ) → (k ≡ 0 → ⊥) → n < 10 → digits k n ≡ digit n ∷ []
-unfolding digits
-digits_one zero n h e = absurd (h refl)
-digits_one (suc k) n h e = simp (lt-ltb n 10 e)
-
-pub digits_more : (k n : ℕ) → (k ≡ 0 → ⊥) → 10 ≤ n → digits k n ≡ digits (k - 1) (n / 10) ++ (digit (n % 10) ∷ [])
-unfolding digits
-digits_more zero n h e = absurd (h refl)
-digits_more (suc k) n h e = let s : suc k - 1 ≡ k = omega arith in rw s (simp (le-ltb n 10 e))
+pub decimal_of : (n : ℕ) → n < 2 ^ 64 → decimal_text n ≡ decimal n
+decimal_of n h = sym (decimal_from_appends digits by_last_digit 20 n h (length-decimal-le 20 n (omega arith) (omega arith) h))

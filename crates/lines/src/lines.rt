@@ -1,10 +1,10 @@
 // The listing's lines.
-ghost use Rattle.std.specs.Prelude.{◌+◌, ◌≤◌, ◌<◌, length, leb};
-ghost use Rattle.lines.specs.Text.{Written, Filled};
+ghost use Rattle.std.specs.Prelude.{◌+◌, ◌≤◌, length, leb};
+ghost use Rattle.lines.specs.Added.{Added};
+ghost use Rattle.lines.specs.Text.{Filled};
 ghost use Rattle.lines.specs.Listing.{header_line, opening_line, event_line, event_lines, lines_fit};
 
-use crate::numbers::put_byte;
-use crate::text::{put_field, put_named, put_number, put_text};
+use crate::text::Text;
 
 // The header line.
 pub fn header(out: &mut [u8]) -> usize
@@ -14,7 +14,9 @@ pub fn header(out: &mut [u8]) -> usize
     if out.len() < 6 {
         return 0;
     }
-    put_text(out, 0, b"PRS 1\n")
+    let mut line = Text::new(out);
+    line.bytes(b"PRS 1\n");
+    line.length
 }
 
 // The line of an opening that was refused, by its number.
@@ -25,38 +27,37 @@ pub fn refused(out: &mut [u8], answer: u8) -> usize
     if out.len() < 29 {
         return 0;
     }
-    let to = put_named(out, 0, b"opening", answer as u64);
-    put_byte(out, to, b'\n')
+    let mut line = Text::new(out);
+    line.bytes(b"opening");
+    line.field(u64::from(answer));
+    line.end_line();
+    line.length
 }
 
-fn put_event(out: &mut [u8], at: usize, event: u64, answer: u8) -> usize
-    requires { at + 42 ≤ length out.old }
-    ensures written { Written out.old at (event_line event answer) result out.new }
-    ensures upper_bound { result ≤ at + 42 }
+fn put_event(out: &mut Text, event: u64, answer: u8)
+    requires { out.old.length + 42 ≤ length out.old.buffer.now }
+    ensures added { Added out.old (event_line event answer) out.new }
+    ensures upper_bound { out.new.length ≤ out.old.length + 42 }
 {
-    let to = put_number(out, at, event);
-    let to = put_field(out, to, answer as u64);
-    put_byte(out, to, b'\n')
+    out.number(event);
+    out.field(u64::from(answer));
+    out.end_line();
 }
 
 // The lines of a piece of answers, the first of them that of event `first`.
+#[tactic(auto, unfolding(crate::specs::Listing::lines_fit))]
 pub fn events(out: &mut [u8], first: u64, answers: &[u8]) -> usize
     ensures filled { Filled (lines_fit first answers.now out.old) (event_lines first answers.now) out.old result out.new }
     ensures upper_bound { result ≤ length out.new }
 {
-    if out.len() / 42 < answers.len() {
+    if out.len() / 42 < answers.len() || 1_000_000_000_000_000_000 < first {
         return 0;
     }
-    if 1_000_000_000_000_000_000 < first {
-        return 0;
-    }
-    let mut i: usize = 0;
     let mut event = first;
-    let mut to: usize = 0;
-    while i < answers.len() {
-        to = put_event(out, to, event, answers[i]);
+    let mut lines = Text::new(out);
+    for answer in answers {
+        put_event(&mut lines, event, *answer);
         event += 1;
-        i += 1;
     }
-    to
+    lines.length
 }

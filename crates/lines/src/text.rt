@@ -1,81 +1,56 @@
-// Text and decimal numbers put into a buffer from a place on; each answers the place behind what it put.
-ghost use Rattle.std.specs.Prelude.{◌≡◌, ◌+◌, ◌≤◌, ◌<◌, ◌++◌, length};
-ghost use Rattle.lines.specs.Text.{Written, digits, decimal, field};
+// A text under way: bytes and decimal numbers, one behind the other in a buffer that is lent.
+ghost use Rattle.std.specs.Prelude.{◌≡◌, ◌+◌, ◌≤◌, ◌++◌, length};
+ghost use Rattle.lines.specs.Text.{decimal, field, line_end};
+ghost use Rattle.lines.specs.Added.{Added};
 
-use crate::numbers::put_byte;
+use itoa::Buffer;
 
-pub(crate) fn put_text(out: &mut [u8], at: usize, text: &[u8]) -> usize
-    requires { at + length text.now ≤ length out.old }
-    ensures { Written out.old at text.now result out.new }
-{
-    let mut i: usize = 0;
-    let mut to = at;
-    while i < text.len() {
-        out[to] = text[i];
-        to += 1;
-        i += 1;
+// The buffer, and how many of its bytes are written.
+#[derive(Drop)]
+pub(crate) struct Text<'a> {
+    pub(crate) buffer: &'a mut [u8],
+    pub(crate) length: usize,
+}
+
+impl<'a> Text<'a> {
+    pub(crate) fn new(buffer: &'a mut [u8]) -> Text<'a>
+        ensures same_buffer { result.buffer.ghost_name ≡ buffer.entry.ghost_name }
+        ensures empty { (result.length ≡ 0) × (result.buffer.now ≡ buffer.old) }
+    {
+        Text { buffer, length: 0 }
     }
-    to
-}
 
-// The digit of a number below 10.
-fn digit(n: u64) -> u8
-    requires { n < 10 }
-    ensures { result ≡ 48 + n }
-{
-    48 + n as u8
-}
-
-// The last digits of a number, at most so many; the digits before the last are put first.
-fn put_digits(out: &mut [u8], at: usize, places: usize, n: u64) -> usize
-    requires { at + places ≤ length out.old }
-    ensures written { Written out.old at (digits places n) result out.new }
-    ensures upper_bound { result ≤ at + places }
-{
-    if places == 0 {
-        return at;
+    pub(crate) fn bytes(&mut self, bytes: &[u8])
+        requires { self.old.length + length bytes.now ≤ length self.old.buffer.now }
+        ensures { Added self.old bytes.now self.new }
+    {
+        let end = self.length + bytes.len();
+        self.buffer[self.length..end].copy_from_slice(bytes);
+        self.length = end;
     }
-    if n < 10 {
-        let only = digit(n);
-        return put_byte(out, at, only);
+
+    pub(crate) fn number(&mut self, n: u64)
+        requires { self.old.length + 20 ≤ length self.old.buffer.now }
+        ensures added { Added self.old (decimal n) self.new }
+        ensures upper_bound { self.new.length ≤ self.old.length + 20 }
+    {
+        let mut digits = Buffer::new();
+        self.bytes(digits.format(n).as_bytes());
     }
-    let to = put_digits(out, at, places - 1, n / 10);
-    let last = digit(n % 10);
-    put_byte(out, to, last)
-}
 
-pub(crate) fn put_number(out: &mut [u8], at: usize, n: u64) -> usize
-    requires { at + 20 ≤ length out.old }
-    ensures written { Written out.old at (decimal n) result out.new }
-    ensures upper_bound { result ≤ at + 20 }
-{
-    put_digits(out, at, 20, n)
-}
+    pub(crate) fn field(&mut self, n: u64)
+        requires { self.old.length + 21 ≤ length self.old.buffer.now }
+        ensures added { Added self.old (field n) self.new }
+        ensures upper_bound { self.new.length ≤ self.old.length + 21 }
+    {
+        self.bytes(b" ");
+        self.number(n);
+    }
 
-pub(crate) fn put_field(out: &mut [u8], at: usize, n: u64) -> usize
-    requires { at + 21 ≤ length out.old }
-    ensures written { Written out.old at (field n) result out.new }
-    ensures upper_bound { result ≤ at + 21 }
-{
-    let to = put_byte(out, at, b' ');
-    put_number(out, to, n)
-}
-
-// A text and a number behind it.
-pub(crate) fn put_named(out: &mut [u8], at: usize, text: &[u8], n: u64) -> usize
-    requires { at + length text.now + 21 ≤ length out.old }
-    ensures written { Written out.old at (text.now ++ field n) result out.new }
-    ensures upper_bound { result ≤ at + length text.now + 21 }
-{
-    let to = put_text(out, at, text);
-    put_field(out, to, n)
-}
-
-pub(crate) fn put_two(out: &mut [u8], at: usize, a: u64, b: u64) -> usize
-    requires { at + 42 ≤ length out.old }
-    ensures written { Written out.old at (field a ++ field b) result out.new }
-    ensures upper_bound { result ≤ at + 42 }
-{
-    let to = put_field(out, at, a);
-    put_field(out, to, b)
+    pub(crate) fn end_line(&mut self)
+        requires { self.old.length + 1 ≤ length self.old.buffer.now }
+        ensures { Added self.old line_end self.new }
+    {
+        self.bytes(b"\n");
+    }
 }

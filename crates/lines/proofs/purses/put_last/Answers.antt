@@ -1,13 +1,14 @@
--- `lines::purses::put_last` meets its contract. Messages, archive and claims, one behind the other.
+-- Messages, archive and claims, one behind the other.
 -- Assumes nothing.
-use Rattle.lines.specs.Text.{field}
 use Rattle.lines.specs.Listing.{last_line}
-use Rattle.lines.proofs.Puts.{then, one_byte, then_two}
+use Rattle.lines.proofs.Puts.{then}
 use Rattle.lines.proofs.purses.put_last.Goals as goal
 
-pub returns-clause-written : goal.returns-clause-written
+pub returns-clause-added : goal.returns-clause-added
 unfolding last_line
-returns-clause-written c =
-    let args = c.args in
-    let counts = then_two _ _ (field args.archive) c.put_named-to.ensures.written c.put_named-to-2.ensures.written in
-    then (then_two _ _ (field args.claims) counts c.put_named-to-3.ensures.written) (one_byte c.put_byte.ensures)
+returns-clause-added c =
+    let messages = rw c.from.ensures at c.field.ensures.added in
+    let archive = rw c.from-2.ensures at c.field-2.ensures.added in
+    let claims = rw c.from-3.ensures at c.field-3.ensures.added in
+    let first = then (then (then c.bytes.ensures messages) c.bytes-2.ensures) archive in
+    then (then (then first c.bytes-3.ensures) claims) c.end_line.ensures

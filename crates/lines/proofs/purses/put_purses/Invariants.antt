@@ -1,14 +1,15 @@
--- `lines::purses::put_purses` meets its contract. The loop's invariant: the lines of the first i purses are put, at most 111 bytes each.
+-- The lines of the purses so far are added, at most 111 bytes each.
 -- Assumes nothing.
-use Prim.Native.Nat.{◌≤◌, ◌-◌, ◌*◌}
-use mathlib.Core.Path.{◌≡◌}
-use lib.ListN.{length, take}
-use Rattle.lines.specs.Text.{Written, numbered}
+use Prim.Native.Nat.{◌≤◌, ◌+◌, ◌*◌}
+use lib.ListN.{take}
+use Rattle.lines.specs.Added.{Added}
+use Rattle.lines.specs.Text.{numbered}
 use Rattle.lines.specs.Listing.{purse_line}
 use Rattle.lines.proofs.purses.put_purses.Given as goal
 
-abbrev pub invariant-loop-i : goal.invariant-loop-i
-invariant-loop-i l = (l.i ≤ l.count) × (l.to ≤ 111 * l.i) × Written l.initial.out 0 (numbered purse_line 0 (take l.i l.table)) l.to l.out × (length l.out ≡ length l.initial.out)
-
-abbrev pub decreases-loop-i : goal.decreases-loop-i
-decreases-loop-i l = l.count - l.i
+abbrev pub invariant-loop-name : goal.invariant-loop-name
+invariant-loop-name l =
+    record {
+      added : Added l.initial.out (numbered purse_line 0 (take l.name l.purses)) l.out;
+      upper_bound : l.out.length ≤ l.initial.out.length + 111 * l.name;
+    }
