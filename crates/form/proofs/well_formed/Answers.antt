@@ -16,14 +16,14 @@ long : (start : Start) → length start.args.p.log ≡ 8
 long start = search (rules, unmapped)
 
 pub is_head_ok-head-requires : goal.is_head_ok-head-requires
-is_head_ok-head-requires c = ap (λ (h : Head). h.most.0) c.from-h.ensures
+is_head_ok-head-requires c = ap (λ (h : Head). h.most.0) c.from.ensures
 
 pub returns-then-p-eq0 : goal.returns-then-p-eq0
 unfolding head_ok idle_ok busy_ok
 returns-then-p-eq0 c =
-    whole c.args.own c.args.p (c.is_head_ok-head.ensures ∙ ap (λ (h : Head). head_ok c.args.own (headed h)) c.from-h.ensures)
+    whole c.args.own c.args.p (c.is_head_ok-head.ensures ∙ ap (λ (h : Head). head_ok c.args.own (headed h)) c.from.ensures)
     (c.is_log_unused.ensures ∙ sym (log_empty c.args.own c.args.p (long (goal.at.returns-then-p-eq0 c).Start) (omega arith)))
 
 pub returns-else-p-eq0 : goal.returns-else-p-eq0
 unfolding head_ok idle_ok busy_ok log_ok place_ok
-returns-else-p-eq0 c = whole c.args.own c.args.p (c.is_head_ok-head.ensures ∙ ap (λ (h : Head). head_ok c.args.own (headed h)) c.from-h.ensures) c.is_log_ok.ensures
+returns-else-p-eq0 c = whole c.args.own c.args.p (c.is_head_ok-head.ensures ∙ ap (λ (h : Head). head_ok c.args.own (headed h)) c.from.ensures) c.is_log_ok.ensures
