@@ -2,7 +2,7 @@
 // number, a list and a buffer are, and the laws of bytes put and read, stand in specs/ and proofs/.
 #![tactic(auto)]
 
-ghost use Rattle.std.specs.Prelude.{◌≡◌, ◌-◌, ◌<◌};
+ghost use Rattle.std.specs.Prelude.{◌≡◌, ◌-◌, ◌<◌, length};
 ghost use Rattle.bigendian.specs.Bytes.{put_in, byte, big, number_at, number_in, read_in};
 
 pub fn wide(x: u8) -> u32
@@ -15,65 +15,56 @@ pub fn wide(x: u8) -> u32
 pub fn left(length: usize, at: usize) -> usize
     ensures { result ≡ length - at }
 {
-    if at < length { length - at } else { 0 }
+    length.saturating_sub(at)
+}
+
+// Bytes from a place on; nothing where they have no room.
+fn put_bytes(out: &mut [u8], at: usize, bytes: &[u8])
+    ensures { out.new ≡ put_in (length bytes.now) out.old at bytes.now }
+{
+    if at <= out.len() && bytes.len() <= out.len() - at {
+        let end = at + bytes.len();
+        out[at..end].copy_from_slice(bytes);
+    }
 }
 
 // One byte; nothing where there is no such place.
 pub fn put_byte(out: &mut [u8], at: usize, v: u8)
     ensures { out.new ≡ put_in 1 out.old at (byte v) }
 {
-    if left(out.len(), at) < 1 {
-        return;
-    }
-    out[at] = v;
+    put_bytes(out, at, &[v]);
 }
 
 // A count in two bytes; nothing where they have no room.
-pub fn put_count(out: &mut [u8], at: usize, v: u16)
-    ensures { out.new ≡ put_in 2 out.old at (big 2 v) }
+pub fn put_count(out: &mut [u8], at: usize, count: u16)
+    ensures { out.new ≡ put_in 2 out.old at (big 2 count) }
 {
-    if left(out.len(), at) < 2 {
-        return;
-    }
-    out[at] = (v / 256 % 256) as u8;
-    out[at + 1] = (v % 256) as u8;
+    put_bytes(out, at, &count.to_be_bytes());
 }
 
 // A number in four bytes, likewise.
-pub fn put_number(out: &mut [u8], at: usize, v: u32)
-    ensures { out.new ≡ put_in 4 out.old at (big 4 v) }
+pub fn put_number(out: &mut [u8], at: usize, number: u32)
+    ensures { out.new ≡ put_in 4 out.old at (big 4 number) }
 {
-    if left(out.len(), at) < 4 {
-        return;
-    }
-    out[at] = (v / 256 / 256 / 256 % 256) as u8;
-    out[at + 1] = (v / 256 / 256 % 256) as u8;
-    out[at + 2] = (v / 256 % 256) as u8;
-    out[at + 3] = (v % 256) as u8;
+    put_bytes(out, at, &number.to_be_bytes());
 }
 
 // A count of two bytes; 0 where they are not all there.
 pub fn count_at(l: &[u8], at: usize) -> u16
     ensures { result ≡ read_in (number_at 2) 2 0 l.now at }
 {
-    if left(l.len(), at) < 2 {
+    if l.len().saturating_sub(at) < 2 {
         return 0;
     }
-    let a = wide(l[at]);
-    let b = wide(l[at + 1]);
-    (a * 256 + b) as u16
+    u16::from_be_bytes([l[at], l[at + 1]])
 }
 
 // A number of four bytes, likewise.
 pub fn number_at(l: &[u8], at: usize) -> u32
     ensures { result ≡ number_in l.now at }
 {
-    if left(l.len(), at) < 4 {
+    if l.len().saturating_sub(at) < 4 {
         return 0;
     }
-    let a = wide(l[at]);
-    let b = wide(l[at + 1]);
-    let c = wide(l[at + 2]);
-    let d = wide(l[at + 3]);
-    ((a * 256 + b) * 256 + c) * 256 + d
+    u32::from_be_bytes([l[at], l[at + 1], l[at + 2], l[at + 3]])
 }

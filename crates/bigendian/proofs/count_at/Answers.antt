@@ -7,9 +7,9 @@ use Rattle.bigendian.specs.Bytes.{number_at}
 use Rattle.bigendian.proofs.Numbers.{read_there, read_missing}
 use Rattle.bigendian.proofs.count_at.Goals as goal
 
-pub returns-then-left-lt2 : goal.returns-then-left-lt2
-returns-then-left-lt2 c = sym (read_missing _ _ _ _ _ (omega arith))
+pub returns-then-saturating_sub-lt2 : goal.returns-then-saturating_sub-lt2
+returns-then-saturating_sub-lt2 c = sym (read_missing _ _ _ _ _ (omega arith))
 
 pub returns : goal.returns
 unfolding number_at
-returns c = simp add-zero (omega arith) ∙ sym (read_there _ _ _ _ _ (omega arith))
+returns c = c.from_be_bytes.ensures ∙ simp add-zero (omega arith) ∙ sym (read_there _ _ _ _ _ (omega arith))

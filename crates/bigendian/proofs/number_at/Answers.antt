@@ -7,9 +7,9 @@ use Rattle.bigendian.specs.Bytes.{number_at}
 use Rattle.bigendian.proofs.Numbers.{number_there, number_missing}
 use Rattle.bigendian.proofs.number_at.Goals as goal
 
-pub returns-then-left-lt4 : goal.returns-then-left-lt4
-returns-then-left-lt4 c = sym (number_missing _ _ (omega arith))
+pub returns-then-saturating_sub-lt4 : goal.returns-then-saturating_sub-lt4
+returns-then-saturating_sub-lt4 c = sym (number_missing _ _ (omega arith))
 
 pub returns : goal.returns
 unfolding number_at
-returns c = simp add-zero (omega arith) ∙ sym (number_there _ _ (omega arith))
+returns c = c.from_be_bytes.ensures ∙ simp add-zero (omega arith) ∙ sym (number_there _ _ (omega arith))

