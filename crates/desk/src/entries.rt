@@ -4,22 +4,6 @@ ghost use Rattle.desk.specs.Desk.{zero_entry, same_entry, empty_archive, stored}
 
 use crate::{Archive, Entry, append};
 
-impl Entry {
-    pub fn zero() -> Entry
-        ensures { result ≡ zero_entry }
-    {
-        Entry::default()
-    }
-
-    // Whether two entries agree in logging purse and details.
-    #[tactic(auto, using(crate::proofs::Equal::equal_entries))]
-    pub fn same(self, other: Entry) -> bool
-        ensures { result ≡ same_entry self other }
-    {
-        self == other
-    }
-}
-
 impl Archive {
     pub fn empty() -> Archive
         ensures { result ≡ empty_archive }

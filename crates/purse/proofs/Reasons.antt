@@ -4,7 +4,7 @@ use Rattle.std.specs.Prelude.{◌≡◌, ℕ, List, [], ◌∷◌, Result, Ok, E
 use mathlib.Core.Path.{refl, sym, ap, ◌∙◌}
 use Rattle.purse.specs.declared.refusal.Refusal.{Refusal}
 use Rattle.purse.specs.declared.refusal.Refusal.TheVariants.{NotWellFormed, BadEvent, NoPurse, NoMessage, BadCounterparty, BadAmount, Busy, NumbersUsedUp, LogFull, AboveBalance, AboveCeiling, NotExpected, LogEmpty, ArchiveFull, BadLength, WrongMark, WrongVersion, BufferTooShort, BadCount, BalanceAboveCeiling, BadClass, TableFull}
-use Rattle.purse.specs.Refusals.{number_of, answer_of}
+use Rattle.purse.specs.Refusals.{answer_of}
 
 abbrev let_by : Result Unit Refusal
 let_by = Ok tt

@@ -3,9 +3,7 @@
 #![tactic(auto)]
 
 ghost use Rattle.std.specs.Prelude.{◌≡◌};
-ghost use Rattle.purse.specs.Tests.{after};
-ghost use Rattle.purse.specs.Details.{zero_details, same_details, zero_message, same_message};
-ghost use Rattle.purse.specs.Purse.{ceiling, opened_purse, zero_purse};
+ghost use Rattle.purse.specs.Purse.{ceiling, opened_purse};
 
 mod refusal; // refusal.rt: why a step is refused
 
@@ -30,7 +28,7 @@ impl Name {
     pub const LAST: u8 = 31;
 }
 
-// Payment details.
+// Payment details. Unused ones are zero in every field, as `default` makes them; so are an unused message and an unused record.
 #[repr(C)]
 #[derive(Clone, Copy, PartialEq, Eq, Default)]
 pub struct Details {
@@ -90,71 +88,6 @@ pub struct CardAnswer {
     pub entry: Details,
 }
 
-// One test of a list of tests, in its order: a number found before it stays.
-pub fn tested(found: u8, applies: bool, number: u8) -> u8
-    ensures { result ≡ after found applies number }
-{
-    if found == 0 {
-        if applies { number } else { 0 }
-    } else {
-        found
-    }
-}
-
-impl Details {
-    pub fn zero() -> Details
-        ensures { result ≡ zero_details }
-    {
-        Details {
-            payer: Name(0),
-            payerseq: Seq(0),
-            payee: Name(0),
-            payeeseq: Seq(0),
-            amount: Amount(0),
-        }
-    }
-
-    // Whether two details agree in every field. The payer's number is asked first, then the payee's, each alone: they tell most payments
-    // apart.
-    pub fn same(self, other: Details) -> bool
-        ensures { result ≡ same_details self other }
-    {
-        if self.payerseq.0 == other.payerseq.0 {
-            if self.payeeseq.0 == other.payeeseq.0 {
-                (self.payer.0 == other.payer.0)
-                    & (self.payee.0 == other.payee.0)
-                    & (self.amount.0 == other.amount.0)
-            } else {
-                false
-            }
-        } else {
-            false
-        }
-    }
-}
-
-impl Message {
-    pub fn zero() -> Message
-        ensures { result ≡ zero_message }
-    {
-        Message {
-            kind: 0,
-            details: Details::zero(),
-        }
-    }
-
-    // Whether two messages agree in kind and details.
-    pub fn same(self, other: Message) -> bool
-        ensures { result ≡ same_message self other }
-    {
-        if self.details.same(other.details) {
-            self.kind == other.kind
-        } else {
-            false
-        }
-    }
-}
-
 impl Purse {
     pub const MAX_BALANCE: Amount = Amount(5_000_000);
 
@@ -176,29 +109,10 @@ impl Purse {
     pub fn opened(balance: Amount) -> Purse
         ensures { result ≡ opened_purse balance }
     {
-        let z = Details::zero();
         Purse {
-            balance: balance,
+            balance,
             next: Seq(1),
-            status: 0,
-            details: z,
-            log: [z; 8],
-            logged: 0,
-        }
-    }
-
-    // An unused record.
-    pub fn zero() -> Purse
-        ensures { result ≡ zero_purse }
-    {
-        let z = Details::zero();
-        Purse {
-            balance: Amount(0),
-            next: Seq(0),
-            status: 0,
-            details: z,
-            log: [z; 8],
-            logged: 0,
+            ..Purse::default()
         }
     }
 }
