@@ -161,7 +161,7 @@ def conjuncts(fact, used):
     if len(pieces) > 1:
         return [conjunct for piece in pieces for conjunct in conjuncts(piece, used)]
     path = CRATES / (used.get(name, "").removeprefix("Rattle.").replace(".", "/") + ".antt")
-    short = path.exists() and re.search(rf"^abbrev pub {name} : .*\n{name} ([\w ]+) = (.*)$", path.read_text(), re.M)
+    short = path.exists() and re.search(rf"^abbrev pub {name} : .*\n{name} ([\w' ′]+) = (.*)$", path.read_text(), re.M)
     if not short:
         return [fact]
     values = dict(zip(short[1].split(), arguments))
