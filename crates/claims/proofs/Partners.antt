@@ -20,11 +20,15 @@ use Rattle.desk.specs.declared.Entry.{Entry}
 use Rattle.desk.specs.declared.Archive.{Archive}
 use Rattle.desk.specs.Desk.{same_entry}
 use Rattle.rules.specs.Bench.{kept}
+use Rattle.rules.proofs.Facts.{entry_equal}
 use Rattle.rules.proofs.Kept.{never}
 use Rattle.table_records.specs.Records.{entry_key, collected}
-use Rattle.table_records.proofs.Same.{entry_key_lem}
 use Rattle.table_records.proofs.Asked.{no_key}
 use Rattle.claims.specs.Claims.{entry_by, payee_logged, claim_beside, bounded}
+
+-- what is the same has the same key
+pub entry_key_lem : (e f : Entry) → same_entry e f ≡ true → entry_key e ≡ entry_key f
+entry_key_lem e f k = ap entry_key (entry_equal e f k)
 
 -- the payee's entry of the same details
 abbrev pub partner : Entry → Entry

@@ -78,7 +78,7 @@ fn sum(table: [Purse; 32], a: Archive, keys: [u32; 256], es: Archive) -> u32
         let by = d.payee;
         let partner = Entry { by: by, details: d };
         let k = key(d.payee.0, d);
-        let on_card = in_log(p, d);
+        let on_card = in_log(&p, d);
         let last = if payer & !on_card { many } else { 0 };
         let mut hit = false;
         let mut s: usize = 0;

@@ -15,12 +15,9 @@ pub fn held_ok(held: Held) -> bool
     ensures { result ≡ held_ok held }
 {
     let purses = held.desk.purses;
-    let table = held.table;
-    let ether = held.desk.ether;
-    let archive = held.desk.archive;
     (1 <= purses)
         & (purses <= 32)
-        & records_ok(table, purses)
-        & messages_ok(table, ether, purses)
-        & entries_ok(table, archive, purses)
+        & records_ok(&held.table, purses)
+        & messages_ok(&held.table, &held.desk.ether, purses)
+        & entries_ok(&held.table, &held.desk.archive, purses)
 }

@@ -1,80 +1,41 @@
--- Places that a loop asks one by one, over any element type: f asks each used place, and no two used places are the same. Why each way out
--- of the loop gives the whole answer, and what the unused places add to it.
+-- Places of which no two are the same, over any element type: why one that stands before settles it, and why none needs to be looked for whose
+-- key is not among the keys.
 -- Assumes nothing.
 use Prim.Native.Nat.{ℕ, ◌+◌, ◌-◌, ◌≤◌, ◌<◌}
 use mathlib.Core.Path.{◌≡◌, refl, sym, ◌∙◌, ap}
-use mathlib.Core.Bool.{Bool, true, false, ◌&&◌, and-false, and_assoc}
+use mathlib.Core.Bool.{Bool, true, false, ◌&&◌, and-false}
 use mathlib.Core.Logic.{⊎_elim}
 use mathlib.Core.List.{List, [], ◌∷◌, ◌++◌, map}
-use lib.ListN.{length, take, drop, get_or, set, length-set}
-use lib.Seq.{length-take-le, get_or-take, take-suc, take-suc-set, take-add, take_all}
+use lib.ListN.{length, take, drop, get_or, set, length-set, length-take}
+use lib.Seq.{take-suc, take-suc-set, take-add, take_all}
 use lib.Dec.{leb, eqb}
 use native.Mathlib.Numerals.{add-one}
 use native.Mathlib.Omega.{arith}
-use borrow.Author.Tests.{eqb-false, le-leb, lt-leb}
+use borrow.Author.Tests.{eqb-false, le-leb, leb-true}
+use Rattle.std.specs.List.{list_any}
 use Rattle.purse.specs.Lists.{all, among, distinct}
-use Rattle.purse.proofs.Bools.{which, refute, nor_l, nor_r}
-use Rattle.purse.proofs.Lists.{all_at, all-next, distinct_append, distinct-next}
+use Rattle.purse.proofs.Bools.{and_l, and_r, which, refute, nor_l, nor_r}
+use Rattle.purse.proofs.Lists.{distinct_append, distinct-next}
 use Rattle.rules.specs.Laid.{places_ok}
 
--- some that are not apart: nor are more
-not_apart : {A : Type 0} (same : A → A → Bool) → ((x y : A) → same x y ≡ same y x) → (l : List A) (j n : ℕ) → j ≤ n → n ≤ length l → distinct same (take j l) ≡ false → distinct same (take n l) ≡ false
-not_apart same turn l j n g h e =
-    let k : n ≡ j + (n - j) = omega arith in
-    ap (λ (m : ℕ). distinct same (take m l)) k ∙ (ap (distinct same) (take-add j (n - j) l) ∙ (distinct_append same turn (take j l) (take (n - j) (drop j l)) ∙ rw e))
+-- the same read from the other side
+pub among_turned : {A : Type 0} (same : A → A → Bool) → ((x y : A) → same x y ≡ same y x) → (x : A) (l : List A) → list_any (λ (y : A). same y x) l ≡ among same x l
+among_turned {A} same turn x [] = refl
+among_turned {A} same turn x (y ∷ l) = rw (turn y x, among_turned same turn x l)
 
-module _ {A : Type 0} (f : A → Bool) (same : A → A → Bool) (l : List A) (n : ℕ) where
-  -- the whole answer of the used places
-  abbrev pub asked : Bool
-  asked = leb n 256 && all f (take n l) && distinct same (take n l)
+module _ {A : Type 0} (same : A → A → Bool) (turn : (x y : A) → same x y ≡ same y x) (l : List A) where
+  -- some that are not apart: nor are more
+  not_apart : (j n : ℕ) → j ≤ n → n ≤ length l → distinct same (take j l) ≡ false → distinct same (take n l) ≡ false
+  not_apart j n g h e =
+      let k : n ≡ j + (n - j) = omega arith in
+      ap (λ (m : ℕ). distinct same (take m l)) k ∙ (ap (distinct same) (take-add j (n - j) l) ∙ (distinct_append same turn (take j l) (take (n - j) (drop j l)) ∙ rw e))
 
-  pub none_used : n ≡ 0 → true ≡ asked
-  none_used e = rw e
-
-  pub too_many : 256 < n → false ≡ asked
-  too_many g = sym (rw (lt-leb n 256 g))
-
-  -- with the unused places: these say already that the count is within the places
-  pub with_unused : (zero : A → Bool) → (places_ok zero 256 n l && asked) ≡ (places_ok zero 256 n l && all f (take n l) && distinct same (take n l))
-  with_unused zero =
-      ⊎_elim
-      (λ (e : leb n 256 ≡ true). rw e (sym (and_assoc (eqb (length l) 256 && true && all zero (drop n l)) (all f (take n l)) (distinct same (take n l)))))
-      (λ (e : leb n 256 ≡ false). rw (e, and-false (eqb (length l) 256)))
-      (which (leb n 256))
-
-  module _ (z : A) (long : length l ≡ 256) (fits : n ≤ 256) where
-    used : length (take n l) ≡ n
-    used = length-take-le n l (omega arith)
-
-    -- one that is refused
-    pub one_bad : (i : ℕ) {r : Bool} → i < n → r ≡ f (get_or l i z) → r ≡ false → false ≡ asked
-    one_bad i {r} g k e =
-        let a : all f (take n l) ≡ false =
-        refute (all f (take n l)) (λ (w : all f (take n l) ≡ true).
-        let s : f (get_or l i z) ≡ true = rw (get_or-take n l i z g) at (all_at f (take n l) z i w (omega (arith, used))) in
-        let b : ◌≡◌ {A = Bool} true false = cc in
-        let c : ◌≡◌ {A = ℕ} 0 1 = cc in
-        omega arith) in
-        sym (rw (a, and-false (leb n 256)))
-
-    -- one that stands before
-    pub one_before : ((x y : A) → same x y ≡ same y x) → (i : ℕ) {r : Bool} → i < n → r ≡ among same (get_or l i z) (take i l) → r ≡ true → false ≡ asked
-    one_before turn i {r} g k e =
-        let d : distinct same (take (i + 1) l) ≡ false =
-        distinct-next same turn l i z (omega arith) ∙ rw (sym k ∙ e) (and-false (distinct same (take i l))) in
-        let whole : distinct same (take n l) ≡ false = not_apart same turn l (i + 1) n (omega arith) (omega arith) d in
-        sym (rw (whole, and-false (leb n 256 && all f (take n l))))
-
-    -- none refused and no two the same
-    pub none_bad : (i : ℕ) → i ≡ n → all f (take i l) ≡ true → distinct same (take i l) ≡ true → true ≡ asked
-    none_bad i e a d =
-        let a' : all f (take n l) ≡ true = rw e at a in
-        let d' : distinct same (take n l) ≡ true = rw e at d in
-        sym (rw (le-leb n 256 fits, a', d'))
-
-    -- one place more
-    pub one_more_lem : (i : ℕ) {r : Bool} → i < n → all f (take i l) ≡ true → r ≡ f (get_or l i z) → r ≡ true → all f (take (i + 1) l) ≡ true
-    one_more_lem i g a k e = all-next f l i z (omega arith) ∙ rw (a, sym k, e)
+  -- one that stands before
+  pub one_before : (z : A) (i : ℕ) → i < length l → among same (get_or l i z) (take i l) ≡ true → distinct same l ≡ false
+  one_before z i g k =
+      let d : distinct same (take (i + 1) l) ≡ false = distinct-next same turn l i z g ∙ rw k (and-false (distinct same (take i l))) in
+      let all-places : take (length l) l ≡ l = take_all (length l) l (omega arith) in
+      rw all-places at (not_apart (i + 1) (length l) (omega arith) (omega arith) d)
 
 -- the keys of the places before i
 abbrev pub Keyed : {A : Type 0} → (A → ℕ) → List A → List ℕ → ℕ → Type 0
@@ -91,6 +52,19 @@ module _ {A : Type 0} (same : A → A → Bool) (key : A → ℕ) (alike : (x y 
       rw (differs x y (nor_l (eqb (key x) (key y)) (among eqb (key x) (map key l)) e))
       (none_keyed x l (nor_r (eqb (key x) (key y)) (among eqb (key x) (map key l)) e))
 
+  -- looked for by its key first
+  pub keyed : (x : A) (l : List A) → (among eqb (key x) (map key l) && among same x l) ≡ among same x l
+  keyed x l =
+      ⊎_elim
+      (λ (e : among eqb (key x) (map key l) ≡ true). rw e)
+      (λ (e : among eqb (key x) (map key l) ≡ false). rw (e, none_keyed x l e))
+      (which (among eqb (key x) (map key l)))
+
+  -- the same, where the keys lie before place i
+  pub keyed_before : (x : A) (l : List A) (ks : List ℕ) (i : ℕ) {r : Bool} → Keyed key l ks i → r ≡ (among eqb (key x) (take i ks) && among same x (take i l)) → r ≡ among same x (take i l)
+  keyed_before x l ks i h e =
+      e ∙ ap (λ (ms : List ℕ). among eqb (key x) ms && among same x (take i l)) h.1 ∙ keyed x (take i l)
+
   pub no_key : (x : A) (l : List A) (ks : List ℕ) (i j k : ℕ) {hit : Bool} → Keyed key l ks i → k ≡ key x → j ≡ i → hit ≡ among eqb k (take j ks) → hit ≡ false → among same x (take i l) ≡ false
   no_key x l ks i j k h e q a f =
       none_keyed x (take i l) (ap (λ (m : ℕ). among eqb m (map key (take i l))) (sym e) ∙ (ap (among eqb k) (sym h.1) ∙ (ap (λ (m : ℕ). among eqb k (take m ks)) (sym q) ∙ (sym a ∙ f))))
@@ -104,9 +78,30 @@ module _ {A : Type 0} (same : A → A → Bool) (key : A → ℕ) (alike : (x y 
   mapped [] t = refl
   mapped (x ∷ s) t = ap (λ (r : List ℕ). key x ∷ r) (mapped s t)
 
-  pub key_more : (l : List A) (ks : List ℕ) (i k : ℕ) (z : A) → length l ≡ 256 → i < 256 → Keyed key l ks i → k ≡ key (get_or l i z) → Keyed key l (set ks i k) (i + 1)
-  key_more l ks i k z long g h e = (
+  pub key_more : (l : List A) (ks : List ℕ) (i k : ℕ) (z : A) → i < length l → i < 256 → Keyed key l ks i → k ≡ key (get_or l i z) → Keyed key l (set ks i k) (i + 1)
+  key_more l ks i k z inside g h e = (
     length-set ks i k ∙ h.0,
-    rw (add-one i, take-suc-set ks i k (omega (arith, h.0)), take-suc l i z (omega arith))
+    rw (add-one i, take-suc-set ks i k (omega (arith, h.0)), take-suc l i z inside)
         (rw (h.1, e) (sym (mapped (take i l) (get_or l i z ∷ [])))),
   )
+
+-- The code's three questions of the places come to the whole: are they laid, each used one beside the records that it names, and the used ones
+-- apart. The last is asked by eq, which says what same says.
+module _ {A : Type 0} (zero f : A → Bool) (same eq : A → A → Bool) (alike : (x y : A) → eq x y ≡ same x y) (n : ℕ) (l : List A) where
+  abbrev pub laid : Bool
+  laid = places_ok zero 256 n l
+
+  abbrev pub asked : Bool
+  asked = laid && all f (take n l) && distinct same (take n l)
+
+  pub not_laid : {r : Bool} → r ≡ laid → r ≡ false → false ≡ asked
+  not_laid e k = sym (rw (sym e ∙ k))
+
+  pub not_beside : {r s : Bool} → r ≡ laid → r ≡ true → s ≡ all f (take n l) → s ≡ false → s ≡ asked
+  not_beside e k a b = b ∙ sym (rw (sym e ∙ k, sym a ∙ b))
+
+  pub laid_apart : {r s t : Bool} → r ≡ laid → r ≡ true → s ≡ all f (take n l) → s ≡ true → t ≡ (leb (length (take n l)) 256 && distinct eq (take n l)) → t ≡ asked
+  laid_apart e k a b d =
+      let few : n ≤ 256 = leb-true n 256 (and_r (eqb (length l) 256) (leb n 256) (and_l (eqb (length l) 256 && leb n 256) (all zero (drop n l)) (sym e ∙ k))) in
+      let fits : length (take n l) ≤ 256 = omega (arith, length-take n l) in
+      d ∙ rw (sym e ∙ k, sym a ∙ b, le-leb (length (take n l)) 256 fits) (ap (λ (g : A → A → Bool). distinct g (take n l)) (λ i x y. alike x y i))

@@ -1,25 +1,18 @@
 // Places and names that must lie within a count.
-ghost use Rattle.std.specs.Prelude.{◌≡◌, min};
+ghost use Rattle.std.specs.Prelude.{◌≡◌};
 ghost use Rattle.table_records.specs.Records.{place_of, key_of, within};
 
 use purse::{Details, Name};
-
-// The count, or all the places where it is larger.
-pub(crate) fn at_most(count: usize, many: usize) -> usize
-    ensures { result ≡ min count many }
-{
-    if many < count { many } else { count }
-}
 
 // The place that a name looks up.
 pub fn place(name: Name) -> usize
     ensures { result ≡ place_of name }
 {
-    let n = name.0;
-    (n % 32) as usize
+    (name.0 % 32) as usize
 }
 
 // A number that equal messages, and equal entries, have in common; most others differ in it.
+#[tactic(auto, unfolding(crate::specs::Records::key_of))]
 pub fn key(tag: u8, d: Details) -> u32
     ensures { result ≡ key_of tag d }
 {
@@ -31,6 +24,7 @@ pub fn key(tag: u8, d: Details) -> u32
 }
 
 // Whether both names are below the purse count.
+#[tactic(auto, unfolding(crate::specs::Records::within))]
 pub fn is_within(d: Details, purses: u8) -> bool
     ensures { result ≡ within purses d }
 {

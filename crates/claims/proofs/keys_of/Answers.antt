@@ -5,7 +5,7 @@ use lib.ListN.{length}
 use native.Mathlib.Omega.{arith}
 use Rattle.desk.specs.Desk.{zero_entry, same_entry}
 use Rattle.table_records.specs.Records.{entry_key}
-use Rattle.table_records.proofs.Same.{entry_key_lem}
+use Rattle.claims.proofs.Partners.{entry_key_lem}
 use Rattle.table_records.proofs.Asked.{key_more, keys_all}
 use Rattle.claims.proofs.keys_of.Goals as goal
 use Rattle.claims.proofs.keys_of.Goals.{Start}
@@ -19,7 +19,7 @@ loop-i-init c = (omega arith, (refl, refl))
 pub loop-i-preserved : goal.loop-i-preserved
 loop-i-preserved c = (
   omega arith,
-  key_more same_entry entry_key entry_key_lem c.args.a.places c.loop-i.keys c.loop-i.i c.key.result zero_entry (long (goal.at.loop-i-preserved c).Start) (omega (arith, c.loop-i-test.true)) c.loop-i.invariant.1 c.key.ensures,
+  key_more same_entry entry_key entry_key_lem c.args.a.places c.loop-i.keys c.loop-i.i c.key.result zero_entry (omega (arith, c.loop-i-test.true, long (goal.at.loop-i-preserved c).Start)) (omega (arith, c.loop-i-test.true)) c.loop-i.invariant.1 c.key.ensures,
 )
 
 pub returns : goal.returns
