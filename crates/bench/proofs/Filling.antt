@@ -1,6 +1,6 @@
 -- A run: the places of the answers fill one by one, the events are the pieces one by one, and every step keeps the rules.
 -- Assumes nothing.
-use Prim.Native.Nat.{ℕ, zero, suc, ◌+◌, ◌*◌, ◌-◌, ◌/◌, ◌<◌, ◌≤◌}
+use Prim.Native.Nat.{ℕ, zero, suc, ◌+◌, ◌*◌, ◌-◌, ◌/◌, ◌<◌, ◌≤◌, min}
 use mathlib.Core.Path.{◌≡◌, refl, ◌∙◌, sym, ap}
 use mathlib.Core.Bool.{true, false}
 use mathlib.Core.List.{List, [], ◌∷◌, ◌++◌, append_assoc, append-nil}
@@ -8,7 +8,7 @@ use lib.ListN.{length, take, drop, set, replicate, length-set, take-append-drop}
 use lib.Seq.{drop-drop, drop-set-lt, take_all, take-suc-set}
 use native.Mathlib.Numerals.{add-one}
 use native.Mathlib.Omega.{arith}
-use mathlib.Core.Logic.{⊎_elim}
+use mathlib.Core.Logic.{inl, inr}
 use lib.Dec.{leb}
 use borrow.Author.Tests.{leb-true, leb-false, ne_eqb}
 use Rattle.purse.proofs.Bools.{which}
@@ -19,7 +19,7 @@ use Rattle.rules.specs.Laid.{held_ok, held_step, held_run, held_answers}
 use Rattle.rules.proofs.Carried.{held_kept}
 use Rattle.asks.specs.Asks.{place_of, delivered_at, asked}
 use Rattle.acts.specs.Acts.{told_at, settled, act_on, by_record}
-use Rattle.bench.specs.Runs.{smaller, pieces}
+use Rattle.bench.specs.Runs.{taken, pieces}
 use Rattle.acts.proofs.ByRecord.{stays, step_by_record}
 
 -- places filled from the front: those filled are the front of `whole`, the others as they were
@@ -101,46 +101,28 @@ going_end held h input before now n i l g =
     (sym r, fill_done _ before now i f ∙ ap (λ (m : ℕ). held_answers held (pieces n input) ++ drop m before) k)
 
 -- a table that is not well formed: every event is answered 2, and nothing moves
-refused-step : (h : Held) (l : List ℕ) → held_ok h ≡ false → held_step h l ≡ record { answer = 2; held = h }
+refused_step : (h : Held) (l : List ℕ) → held_ok h ≡ false → held_step h l ≡ record { answer = 2; held = h }
 unfolding held_step
-refused-step h l w = rw w
+refused_step h l w = rw w
 
-pub refused-run : (h : Held) (ls : List (List ℕ)) → held_ok h ≡ false → held_run h ls ≡ h
-refused-run h [] w = refl
-refused-run h (l ∷ ls) w = ap (λ (x : Answered). held_run x.held ls) (refused-step h l w) ∙ refused-run h ls w
+pub refused_run : (h : Held) (ls : List (List ℕ)) → held_ok h ≡ false → held_run h ls ≡ h
+refused_run h [] w = refl
+refused_run h (l ∷ ls) w = ap (λ (x : Answered). held_run x.held ls) (refused_step h l w) ∙ refused_run h ls w
 
-pub refused-answers : (h : Held) (n : ℕ) (l : List ℕ) → held_ok h ≡ false → held_answers h (pieces n l) ≡ replicate n 2
-refused-answers h zero l w = refl
-refused-answers h (suc n) l w =
-    ap (λ (x : Answered). x.answer ∷ held_answers x.held (pieces n (drop 12 l))) (refused-step h (take 12 l) w)
-    ∙ ap (λ (t : List ℕ). 2 ∷ t) (refused-answers h n (drop 12 l) w)
+pub refused_answers : (h : Held) (n : ℕ) (l : List ℕ) → held_ok h ≡ false → held_answers h (pieces n l) ≡ replicate n 2
+refused_answers h zero l w = refl
+refused_answers h (suc n) l w =
+    ap (λ (x : Answered). x.answer ∷ held_answers x.held (pieces n (drop 12 l))) (refused_step h (take 12 l) w)
+    ∙ ap (λ (t : List ℕ). 2 ∷ t) (refused_answers h n (drop 12 l) w)
 
--- twos filled in
-pub twos_on : (before now : List ℕ) (n i : ℕ) → i < n → n ≤ length before → Filled (replicate n 2) (replicate (n - i) 2) before now i → Filled (replicate n 2) (replicate (n - (i + 1)) 2) before (set now i 2) (i + 1)
-twos_on before now n i l m f =
-    let e : n - i ≡ suc (n - (i + 1)) = omega arith in
-    let g : Filled (replicate n 2) (2 ∷ replicate (n - (i + 1)) 2) before now i = rw e at f in
-    fill_one _ _ before now i 2 (omega arith) g
-
-pub twos_end : (before now : List ℕ) (n i : ℕ) → i ≤ n → n ≤ i → Filled (replicate n 2) (replicate (n - i) 2) before now i → now ≡ replicate n 2 ++ drop n before
-twos_end before now n i l m f =
-    let e : n - i ≡ 0 = omega arith in
-    let k : i ≡ n = omega arith in
-    let g : Filled (replicate n 2) [] before now i = rw e at f in
-    fill_done _ before now i g ∙ ap (λ (j : ℕ). replicate n 2 ++ drop j before) k
-
--- the events taken are whole, and each has a place
-pub taken-fits : (n x y : ℕ) → n ≡ smaller (x / 12) y → (12 * n ≤ x) × (n ≤ y)
-taken-fits n x y e =
-    ⊎_elim
-    (λ (w : leb (x / 12) y ≡ true).
-    let k : n ≡ x / 12 = e ∙ rw w refl in
-    (omega arith, omega (arith, leb-true (x / 12) y w)))
-    (λ (w : leb (x / 12) y ≡ false).
-    let k : n ≡ y = e ∙ rw w refl in
-    let l : y < x / 12 = leb-false _ _ w in
-    (omega arith, omega arith))
-    (which (leb (x / 12) y))
+-- as many events are taken as the smaller of two numbers says
+pub taken_is : (input answers : List ℕ) → min (length input / 12) (length answers) ≡ taken input answers
+unfolding taken
+taken_is input answers =
+    elim (which (leb (length input / 12) (length answers))) [
+      | inl l ↦ rw l (let h : length input / 12 ≤ length answers = leb-true _ _ l in omega arith)
+      | inr g ↦ rw g (let h : length answers < length input / 12 = leb-false _ _ g in omega arith)
+    ]
 
 -- an event alone is a run of one
 pub run_of_one : (h : Held) (l : List ℕ) → length l ≡ 12 → (held_run h (pieces 1 l) ≡ (held_step h l).held) × (held_answers h (pieces 1 l) ≡ (held_step h l).answer ∷ [])

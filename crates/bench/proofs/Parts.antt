@@ -4,8 +4,9 @@
 -- part.
 -- Assumes nothing.
 use Prim.Native.Nat.{ℕ}
-use mathlib.Core.Path.{◌≡◌, ap, ◌∙◌}
-use mathlib.Core.Bool.{Bool, true, ◌&&◌}
+use mir.Val.{bool_byte}
+use mathlib.Core.Path.{◌≡◌, refl, ap, ◌∙◌}
+use mathlib.Core.Bool.{Bool, true, false, ◌&&◌, cond}
 use mathlib.Core.List.{List}
 use lib.ListN.{length, get_or, set, drop}
 use lib.Dec.{leb, eqb}
@@ -13,7 +14,6 @@ use borrow.Author.Tests.{eqb-true, eq-eqb, ne_eqb}
 use Rattle.purse.specs.declared.Message.{Message}
 use Rattle.purse.specs.declared.Purse.{Purse}
 use Rattle.purse.specs.Lists.{all}
-use Rattle.purse.specs.Tests.{after}
 use Rattle.purse.specs.Details.{zero_message}
 use Rattle.purse.specs.Purse.{zero_purse}
 use Rattle.purse.proofs.Bools.{and_l, and_r}
@@ -61,6 +61,11 @@ long_parts h w =
       long is_zero_message 256 h.desk.ether.count h.desk.ether.places (and_r ps ms both),
     )
 
+-- 1 for what is lost, else 0
+one_where : (b : Bool) → bool_byte b ≡ cond b 1 0
+one_where true = refl
+one_where false = refl
+
 module _ (h : Held) (k : ℕ) (a : Asked) (t : Turned) where
   -- the record in place k
   abbrev here : Purse
@@ -95,9 +100,9 @@ module _ (h : Held) (k : ℕ) (a : Asked) (t : Turned) where
     unfolding carried_out
     when-nothing e = rw (done, e, z)
 
-    pub when_sent : (m : Message) (x : Changed) (n : ℕ) → c ≡ change.Send m → x ≡ appended h.desk.ether m → n ≡ after 0 x.lost 1 → record { answer = n; held = record { table = set h.table k q; desk = with_ether h.desk x.ether } } ≡ settled_at
+    pub when_sent : (m : Message) (x : Changed) (n : ℕ) → c ≡ change.Send m → x ≡ appended h.desk.ether m → n ≡ bool_byte x.lost → record { answer = n; held = record { table = set h.table k q; desk = with_ether h.desk x.ether } } ≡ settled_at
     unfolding carried_out
-    when_sent m x n e s f = rw (done, e, f, s)
+    when_sent m x n e s f = rw (done, e, f, one_where, s)
 
     pub when_lost : (i : ℕ) (x : Changed) → c ≡ change.Lose i → x ≡ taken_out h.desk.ether i → record { answer = t.answer; held = record { table = set h.table k q; desk = with_ether h.desk x.ether } } ≡ settled_at
     unfolding carried_out

@@ -43,7 +43,7 @@ pub fn delivered(event: &[u8]) -> usize
 pub fn behind(count: u16) -> usize
     ensures { result ≡ within count }
 {
-    within(count as usize)
+    within(usize::from(count))
 }
 
 // What is seen of an event, by the desk's counts and the message m at the place that it delivers.
@@ -54,16 +54,17 @@ pub fn seen_by(purses: u8, messages: u16, entries: u16, m: Message, event: &[u8]
 }
 
 // The record q is written, and the desk stays.
+#[tactic(auto, unfolding(crate::specs::Deeds::desk_stays))]
 fn desk_stays(answer: u8, q: Purse, s: Seen, last: Message, entry: Entry) -> Deed
     ensures { result ≡ desk_stays answer q s last entry }
 {
     Deed {
-        answer: answer,
+        answer,
         purse: q,
         purses: s.purses,
         message: last,
         messages: s.messages,
-        entry: entry,
+        entry,
         entries: s.entries,
         loses: false,
         place: 0,
@@ -71,101 +72,64 @@ fn desk_stays(answer: u8, q: Purse, s: Seen, last: Message, entry: Entry) -> Dee
 }
 
 // What a change writes.
+#[tactic(auto, unfolding(crate::specs::Deeds::desk_stays, crate::specs::Deeds::doing))]
 fn doing(q: Purse, s: Seen, last: Message, entry: Entry, change: Change) -> Deed
     ensures { result ≡ doing q s last entry change }
 {
+    let mut deed = desk_stays(0, q, s, last, entry);
     match change {
-        Change::Nothing => desk_stays(0, q, s, last, entry),
-        Change::Send(m) => {
+        Change::Nothing => {}
+        Change::Send(message) => {
             if s.messages < 256 {
-                Deed {
-                    answer: 0,
-                    purse: q,
-                    purses: s.purses,
-                    message: m,
-                    messages: s.messages + 1,
-                    entry: entry,
-                    entries: s.entries,
-                    loses: false,
-                    place: 0,
-                }
+                deed.message = message;
+                deed.messages = s.messages + 1;
             } else {
-                desk_stays(1, q, s, last, entry)
+                deed.answer = 1;
             }
         }
-        Change::Lose(place) => Deed {
-            answer: 0,
-            purse: q,
-            purses: s.purses,
-            message: last,
-            messages: s.messages,
-            entry: entry,
-            entries: s.entries,
-            loses: true,
-            place: place as usize,
-        },
-        Change::Store(e) => {
+        Change::Lose(place) => {
+            deed.loses = true;
+            deed.place = place as usize;
+        }
+        Change::Store(oldest) => {
             if s.entries < 256 {
-                Deed {
-                    answer: 0,
-                    purse: q,
-                    purses: s.purses,
-                    message: last,
-                    messages: s.messages,
-                    entry: e,
-                    entries: s.entries + 1,
-                    loses: false,
-                    place: 0,
-                }
-            } else {
-                desk_stays(0, q, s, last, entry)
+                deed.entry = oldest;
+                deed.entries = s.entries + 1;
             }
         }
-        Change::Issue => Deed {
-            answer: 0,
-            purse: q,
-            purses: one_more(s.purses),
-            message: last,
-            messages: s.messages,
-            entry: entry,
-            entries: s.entries,
-            loses: false,
-            place: 0,
-        },
+        Change::Issue => deed.purses = one_more(s.purses),
     }
+    deed
 }
 
 // What is asked for, as the card answered it at the head of its record p.
+#[tactic(auto, unfolding(crate::specs::Deeds::deed_of))]
 fn deed_of(p: Purse, s: Seen, last: Message, entry: Entry, asked: Asked, t: Turned) -> Deed
     ensures { result ≡ deed_of p s last entry asked t }
 {
-    let n = t.answer;
-    if n == 0 {
-        let head = t.head;
-        let log = t.log;
-        let m = t.message;
-        let q = record(p, head, log);
-        let change = change_of(p, asked, m);
+    if t.answer == 0 {
+        let q = record(p, t.head, t.log);
+        let change = change_of(p, asked, t.message);
         doing(q, s, last, entry, change)
     } else {
-        desk_stays(n, p, s, last, entry)
+        desk_stays(t.answer, p, s, last, entry)
     }
 }
 
 // What an event writes at its record p, by what is seen of it, and behind the messages and the entries that stand, where `last` and `entry`
 // stand now.
+#[tactic(auto, unfolding(crate::specs::Deeds::deed_by))]
 pub fn done_by(p: Purse, s: Seen, last: Message, entry: Entry, event: &[u8]) -> Deed
     ensures { result ≡ deed_by p s last entry (decoded event.now) }
 {
     let asked = ask(s, decode(event));
-    let t = tell(Head::of(p), asked);
-    deed_of(p, s, last, entry, asked, t)
+    let turned = tell(Head::from(p), asked);
+    deed_of(p, s, last, entry, asked, turned)
 }
 
 // The messages without the one at a place.
 pub fn lost(ether: Ether, place: usize) -> Ether
     ensures { result ≡ (taken_out ether place).ether }
 {
-    let changed = ether.take_out(place);
-    changed.ether
+    ether.take_out(place).ether
 }

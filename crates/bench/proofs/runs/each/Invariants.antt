@@ -3,11 +3,7 @@
 -- Assumes nothing.
 use Rattle.bench.proofs.Filling.{Going}
 use Rattle.bench.proofs.Parts.{bench}
-use Prim.Native.Nat.{◌-◌}
 use Rattle.bench.proofs.runs.each.Given as goal
 
 abbrev pub invariant-loop-i : goal.invariant-loop-i
 invariant-loop-i l = Going (bench l.initial.table l.initial.purses l.initial.ether l.initial.archive) (bench l.table l.purses l.ether l.archive) l.input l.initial.answers l.answers l.n l.i
-
-abbrev pub decreases-loop-i : goal.decreases-loop-i
-decreases-loop-i l = l.n - l.i
