@@ -22,7 +22,7 @@ COMPARISON = re.compile(r"[\w′ .()+*/%-]+ [≡<≤] [\w′ .()+*/%-]+")
 EQUALITY = dict.fromkeys(["Rattle.std.specs.Prelude", "Rattle.std.proofs.Common"], "mathlib.Core.Path")
 LAWS = {"one": 1, "two": 2, "three": 3, "four": 4}
 LAWS_FILE = "crates/purse/proofs/Unique.antt"
-NO_CONTRACT = [("crates/stream/src/lib.rt", "list"), ("crates/stream/src/failure.rt", "tell")]
+NO_CONTRACT = [("crates/stream/src/lib.rt", "list"), ("crates/stream/src/lib.rt", "fill"), ("crates/stream/src/failure.rt", "tell")]
 
 # A function's parameters, the left sides that its equations must have, its equations, what it compares besides, and all else in its contract.
 Contract = collections.namedtuple("Contract", "parameters wanted equations besides rest")
