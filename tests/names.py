@@ -24,7 +24,7 @@ LAWS = {"one": 1, "two": 2, "three": 3, "four": 4}
 LAWS_FILE = "crates/purse/proofs/Unique.antt"
 # The law of a check: its contract gives the number of its result, and each reason to refuse has its own.
 ANSWER, ANSWER_FILE = "one_answer", "crates/purse/proofs/Reasons.antt"
-NO_CONTRACT = [("crates/stream/src/lib.rt", "list"), ("crates/stream/src/failure.rt", "tell")]
+NO_CONTRACT = [("crates/stream/src/lib.rt", "list"), ("crates/stream/src/lib.rt", "fill"), ("crates/stream/src/failure.rt", "tell")]
 
 # A function's parameters, the left sides that its equations must have, its equations, what it compares besides, and all else in its contract.
 Contract = collections.namedtuple("Contract", "parameters wanted equations besides rest")

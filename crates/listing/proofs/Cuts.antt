@@ -1,14 +1,13 @@
 -- The events of a piece: a run of the whole ones, and one more where the last is cut short, is a run of them all.
 -- Assumes nothing.
 use mathlib.Core.Path.{◌≡◌, refl, sym, ap, ◌∙◌}
-use mathlib.Core.Bool.{false}
 use Prim.Native.Nat.{ℕ, zero, suc, ◌+◌, ◌*◌, ◌/◌, ◌≤◌, ◌<◌}
 use native.Mathlib.Numerals.{add-one}
 use native.Mathlib.Omega.{arith}
 use mathlib.Core.List.{List, [], ◌∷◌, ◌++◌, append-nil}
 use lib.ListN.{length, drop, get_or, set, length-append}
 use lib.Seq.{set-append_seam, append_snoc, drop-cons}
-use borrow.Author.Tests.{le-leb, lt-leb, eq-eqb, ne_eqb}
+use borrow.Author.Tests.{le-leb, eq-eqb, ne_eqb}
 use Rattle.desk.specs.declared.Held.{Held}
 use Rattle.desk.specs.declared.Answered.{Answered}
 use Rattle.rules.specs.Laid.{held_step, held_run, held_answers}
@@ -16,7 +15,6 @@ use Rattle.bench.specs.Runs.{pieces, taken}
 use Rattle.listing.specs.Piece.{events_in, piece_fits, piece_lines, piece_of, piece_buffer}
 use Rattle.lines.specs.Text.{Filled}
 use Rattle.lines.specs.Listing.{event_lines, lines_fit}
-use Rattle.listing.specs.declared.Listed.{Listed}
 
 -- places for the answers of all whole events
 pub taken-all : (l bs : List ℕ) → length l ≤ 6144 → 512 ≤ length bs → taken l bs ≡ length l / 12
@@ -94,26 +92,8 @@ module _ (h : Held) (l bs : List ℕ) {t : ℕ} {h' : Held} {bs' : List ℕ} whe
 pub few_cut : (l : List ℕ) → length l ≤ 6144 → (12 * (length l / 12) ≡ length l → ⊥) → length l / 12 + 1 ≤ 512
 few_cut l a h = omega arith
 
--- which pieces fit, and what is left of one that does not
+-- a piece that fits
 module _ (h : Held) (k : ℕ) (l out : List ℕ) where
-  pub not_listed : piece_fits k l out ≡ false → {r : Listed} → r ≡ record { held = h; events = 0; length = 0 }
-      → ((r ≡ piece_of h k l out) × (out ≡ piece_buffer h k l out)) × ((r.events ≤ 512) × (r.length ≤ length out))
-  unfolding piece_of piece_buffer
-  not_listed e {r} p = rw p (rw e (refl, refl), (omega arith, omega arith))
-
-  pub too_long : 6144 < length l → piece_fits k l out ≡ false
-  unfolding piece_fits
-  too_long a = simp (lt-leb (length l) 6144 a)
-
-  pub too_short : length l ≤ 6144 → length out < 21504 → piece_fits k l out ≡ false
-  unfolding piece_fits
-  too_short a b = simp (le-leb (length l) 6144 a, lt-leb 21504 (length out) b)
-
-  pub too_late : length l ≤ 6144 → 21504 ≤ length out → 1_000_000_000_000_000_000 < k → piece_fits k l out ≡ false
-  unfolding piece_fits
-  too_late a b c =
-      simp (le-leb (length l) 6144 a, le-leb 21504 (length out) b, lt-leb k 1_000_000_000_000_000_000 c)
-
   -- the answers listed
   pub listed : {bs out' : List ℕ} {r t : ℕ} {h' : Held} → length l ≤ 6144 → 21504 ≤ length out → k ≤ 1_000_000_000_000_000_000
       → bs ≡ held_answers h (events_in l) → length bs ≤ 512 → Filled (lines_fit k bs out) (event_lines k bs) out r out'

@@ -1,4 +1,3 @@
-pub mod Opened
 pub mod Cuts
 pub mod Whole
 pub mod Worked

@@ -4,8 +4,6 @@
 mod pieces; // pieces.rt: the events of a piece of the input
 mod input; // input.rt: purse count and balances
 
-ghost use Rattle.std.specs.Prelude.{◌≡◌};
-
 use desk::Held;
 pub use input::{balance_bytes, read_opening};
 pub use lines::{events, foot, header, refused};
@@ -24,16 +22,4 @@ pub struct Listed {
     pub held: Held,
     pub events: usize,
     pub length: usize,
-}
-
-impl Listed {
-    fn none(held: Held) -> Listed
-        ensures { result ≡ record { held = held; events = 0; length = 0 } }
-    {
-        Listed {
-            held: held,
-            events: 0,
-            length: 0,
-        }
-    }
 }

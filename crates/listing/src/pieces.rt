@@ -21,38 +21,33 @@ fn answer_all(held: Held, input: &[u8], answers: &mut [u8]) -> Ran
     if at == input.len() {
         return ran;
     }
-    let h = ran.held;
-    let last = bench::event(h, &input[at..]);
+    let last = bench::event(ran.held, &input[at..]);
     answers[whole] = last.answer;
-    let next = last.held;
     Ran {
         taken: whole + 1,
-        held: next,
+        held: last.held,
     }
 }
 
 // Runs a piece of at most 512 events and puts their lines into the buffer, the first of them that of event `first`.
+#[tactic(auto, unfolding(crate::specs::Piece::piece_fits, crate::specs::Piece::piece_of, crate::specs::Piece::piece_buffer))]
 pub fn piece(held: Held, first: u64, input: &[u8], out: &mut [u8]) -> Listed
     ensures value { (result ≡ piece_of held first input.now out.old) × (out.new ≡ piece_buffer held first input.now out.old) }
     ensures events_bound { (result.events ≤ 512) × (result.length ≤ length out.new) }
 {
-    if 6144 < input.len() {
-        return Listed::none(held);
+    if 6144 < input.len() || out.len() < 21504 || 1_000_000_000_000_000_000 < first {
+        return Listed {
+            held,
+            events: 0,
+            length: 0,
+        };
     }
-    if out.len() < 21504 {
-        return Listed::none(held);
-    }
-    if 1_000_000_000_000_000_000 < first {
-        return Listed::none(held);
-    }
-    let mut answers = [0u8; 512];
+    let mut answers = [0; 512];
     let ran = answer_all(held, input, &mut answers);
-    let n = ran.taken;
-    let length = events(out, first, &answers[..n]);
-    let next = ran.held;
+    let length = events(out, first, &answers[..ran.taken]);
     Listed {
-        held: next,
-        events: n,
-        length: length,
+        held: ran.held,
+        events: ran.taken,
+        length,
     }
 }

@@ -1,16 +1,15 @@
--- `listing::input::read_opening` meets its contract. No byte, a count above 32, too few bytes, or all balances there.
+-- All balances there, or none.
 -- Assumes nothing.
-use Rattle.listing.proofs.Opened.{nothing_there, too_many, too_few, all_there}
+use mathlib.Core.Path.{◌≡◌, sym, ◌∙◌}
+use mathlib.Core.Bool.{true}
+use Rattle.bigendian.specs.Bytes.{number_at}
+use Rattle.bigendian.proofs.Coded.{length-many}
+use Rattle.listing.specs.Opening.{whole_opening, balances_in, opening_in}
 use Rattle.listing.proofs.input.read_opening.Goals as goal
 
-pub returns-then-input-lt1-clause-value : goal.returns-then-input-lt1-clause-value
-returns-then-input-lt1-clause-value c = nothing_there c.args.input.now c.if-input-lt1.true
-
-pub returns-then-count-gt32-clause-value : goal.returns-then-count-gt32-clause-value
-returns-then-count-gt32-clause-value c = too_many c.args.input.now c.if-count-gt32.true
-
-pub returns-then-input-n-clause-value : goal.returns-then-input-n-clause-value
-returns-then-input-n-clause-value c = too_few c.args.input.now c.if-count-gt32.false c.if-input-n.true
-
 pub returns-clause-value : goal.returns-clause-value
-returns-clause-value c = rw c.balances-all.ensures (all_there c.args.input.now c.if-count-gt32.false c.if-input-n.false)
+unfolding balances_in opening_in
+returns-clause-value c =
+    let l = c.args.input.now in
+    let whole : whole_opening l ≡ true = sym c.is_whole.ensures ∙ c.if-not-is_whole.false in
+    simp (c.balances.ensures, c.from-count.ensures, whole, length-many (number_at 4) 4)
