@@ -34,12 +34,9 @@ other_bad : (l : List Purse) (d : Desk) → eqb (length l) 32 ≡ false → held
 other_bad l d p = refute (held_ok (held l d)) (λ w. subst T (sym (ap (λ (n : ℕ). eqb n 32) (long_is l d w)) ∙ p) tt)
 
 -- ---- what is left of the bench
-kept_so : (n : ℕ) (l : List Purse) (d : Desk) (ps : List (List ℕ)) → (stored_of l d (record { answer = n; held = held_run (held (copied_of l) d) ps })).held ≡ held_run (held l d) ps
+pub run_lent : (n : ℕ) (l : List Purse) (d : Desk) (ps : List (List ℕ)) → (stored_of l d (record { answer = n; held = held_run (held (copied_of l) d) ps })).held ≡ held_run (held l d) ps
 unfolding copied_of stored_of
-kept_so n l d ps = elim (which (eqb (length l) 32)) [ inl p ↦ rw p | inr p ↦ rw p (sym (bad_run (held l d) ps (other_bad l d p))) ]
-
-pub run-stored : (l : List Purse) (d : Desk) (ps : List (List ℕ)) (c : Answered) → c.held ≡ held_run (held (copied_of l) d) ps → (stored_of l d c).held ≡ held_run (held l d) ps
-run-stored l d ps c e = ap (λ (h : Held). (stored_of l d (record { answer = c.answer; held = h })).held) e ∙ kept_so c.answer l d ps
+run_lent n l d ps = elim (which (eqb (length l) 32)) [ inl p ↦ rw p | inr p ↦ rw p (sym (bad_run (held l d) ps (other_bad l d p))) ]
 
 pub answers_lent : (l : List Purse) (d : Desk) (ps : List (List ℕ)) → held_answers (held (copied_of l) d) ps ≡ held_answers (held l d) ps
 answers_lent l d ps = read_whole (λ (h : Held). held_answers h ps) l d (λ k m. answers_blind k m ps)

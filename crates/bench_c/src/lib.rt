@@ -7,24 +7,25 @@ ghost use Rattle.rules.specs.Laid.{held_step, held_opening, held_claims};
 ghost use Rattle.bench.specs.Runs.{run_of};
 ghost use Rattle.walk_table.specs.Lent.{held};
 
-use desk::{Desk, Figure};
-use purse::Purse;
-use steps::{kept, opened, owed, ran};
+use bench::run;
+use claims::claims;
+use desk::{Answered, Desk, Figure};
+use opens::opening;
+use purse::{Purse, Refusal};
 use walk_desk::{seen_at, written_at};
 use walk_store::stored;
-use walk_table::{copied, table_ok};
-
-mod steps; // steps.rt: the bench's steps by value, as the entries call them
+use walk_table::{held, table_ok};
 
 // An event, over a table and a desk that are both lent.
+#[tactic(auto, using(walk_table::proofs::Whole::long_is, asks::proofs::Looks::seen_below), unfolding(rules::specs::Laid::held_step))]
 #[unsafe(no_mangle)]
 pub extern "C" fn prs_event(table: &mut [Purse], desk: &mut Desk, event: &[u8]) -> u8
     ensures { (result ≡ (held_step (held table.old desk.old) event.now).answer)
         × (table.new ≡ (held_step (held table.old desk.old) event.now).held.table)
         × (desk.new ≡ (held_step (held table.old desk.old) event.now).held.desk) }
 {
-    if !table_ok(table, *desk) {
-        return 2;
+    if !table_ok(table, desk) {
+        return Refusal::NotWellFormed.into();
     }
     let seen = seen_at(desk, event);
     let at = seen.place;
@@ -34,25 +35,28 @@ pub extern "C" fn prs_event(table: &mut [Purse], desk: &mut Desk, event: &[u8]) 
 }
 
 // The claims figure, over a table and a desk that are both lent.
+#[tactic(auto, using(walk_table::proofs::Whole::claims_lent))]
 #[unsafe(no_mangle)]
 pub extern "C" fn prs_claims(table: &[Purse], desk: &Desk) -> Figure
     ensures { result ≡ held_claims (held table.now desk.now) }
 {
-    owed(copied(table), *desk)
+    claims(held(table, desk))
 }
 
 // A bench opened with these balances, over a table and a desk that are both lent.
+#[tactic(auto, using(walk_store::proofs::Whole::opening_lent))]
 #[unsafe(no_mangle)]
 pub extern "C" fn prs_opening(table: &mut [Purse], desk: &mut Desk, balances: &[u32]) -> u8
     ensures { (result ≡ (held_opening (held table.old desk.old) balances.now).answer)
         × (table.new ≡ (held_opening (held table.old desk.old) balances.now).held.table)
         × (desk.new ≡ (held_opening (held table.old desk.old) balances.now).held.desk) }
 {
-    let by = opened(copied(table), *desk, balances);
+    let by = opening(held(table, desk), balances);
     stored(table, desk, by)
 }
 
 // The whole events of a list, as many as there are places for answers, over a table and a desk that are both lent; how many were taken.
+#[tactic(auto, using(crate::proofs::Runs::run_lent, crate::proofs::Runs::answers_lent))]
 #[unsafe(no_mangle)]
 pub extern "C" fn prs_run(
     table: &mut [Purse],
@@ -65,7 +69,11 @@ pub extern "C" fn prs_run(
         × (desk.new ≡ (run_of (held table.old desk.old) list.now answers.old).held.desk)
         × (answers.new ≡ (run_of (held table.old desk.old) list.now answers.old).answers) }
 {
-    let by = ran(copied(table), *desk, list, answers);
-    stored(table, desk, kept(by));
+    let by = run(held(table, desk), list, answers);
+    let kept = Answered {
+        answer: 0,
+        held: by.held,
+    };
+    stored(table, desk, kept);
     by.taken
 }

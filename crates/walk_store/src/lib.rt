@@ -5,31 +5,19 @@ ghost use Rattle.std.specs.Prelude.{◌≡◌};
 ghost use Rattle.walk_store.specs.Stored.{stored_of};
 
 use desk::{Answered, Desk};
-use purse::Purse;
-
-// The table of what was answered.
-fn table_of(by: Answered) -> [Purse; 32]
-    ensures { result ≡ by.held.table }
-{
-    let held = by.held;
-    held.table
-}
+use purse::{Purse, Refusal};
 
 // What was answered by value is stored in a lent table of 32 records and a lent desk; another length is refused, and both stay.
+#[tactic(auto, unfolding(crate::specs::Stored::stored_of))]
 pub fn stored(table: &mut [Purse], desk: &mut Desk, by: Answered) -> u8
     ensures { (result ≡ (stored_of table.old desk.old by).answer)
         × (table.new ≡ (stored_of table.old desk.old by).held.table)
         × (desk.new ≡ (stored_of table.old desk.old by).held.desk) }
 {
     if table.len() != 32 {
-        return 2;
+        return Refusal::NotWellFormed.into();
     }
-    let from = table_of(by);
-    let mut to = 0;
-    while to < 32 {
-        table[to] = from[to];
-        to = to + 1;
-    }
+    table.copy_from_slice(&by.held.table);
     *desk = by.held.desk;
     by.answer
 }

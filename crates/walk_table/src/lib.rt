@@ -27,8 +27,8 @@ pub fn held(table: &[Purse], desk: &Desk) -> Held
 
 // Whether a lent table and a desk obey the rules. A table of another length than 32 does not, and neither does its copy.
 #[tactic(auto, using(crate::proofs::Whole::ok_lent))]
-pub fn table_ok(table: &[Purse], desk: Desk) -> bool
-    ensures { result ≡ held_ok (held table.now desk) }
+pub fn table_ok(table: &[Purse], desk: &Desk) -> bool
+    ensures { result ≡ held_ok (held table.now desk.now) }
 {
-    held_ok(held(table, &desk))
+    held_ok(held(table, desk))
 }

@@ -2,7 +2,7 @@
 -- read, and written back beside the desk, and that is the bench's step (`deed_by_record`, `step_by_record`). Assumes nothing.
 use Prim.Native.Nat.{ℕ, ◌<◌}
 use mathlib.Core.Path.{◌≡◌, sym, ap, ◌∙◌}
-use mathlib.Core.Bool.{true, false}
+use mathlib.Core.Bool.{true}
 use mathlib.Core.List.{List}
 use lib.ListN.{length, get_or, set}
 use native.Mathlib.Omega.{arith}
@@ -28,10 +28,6 @@ use Rattle.bench_c.proofs.prs_event.Goals as goal
 abbrev left : ℕ → List Purse → Desk → Answered
 left n l d = record { answer = n; held = held l d }
 
-refused : (l : List Purse) (d : Desk) (es : List ℕ) → held_ok (held l d) ≡ false → left 2 l d ≡ held_step (held l d) es
-unfolding held_step
-refused l d es p = rw p
-
 -- the record that an event is seen to mean is one of the table
 below : (d : Desk) (es : List ℕ) (s : Seen) → s ≡ seen_at d (decoded es) → s.place < 32
 below d es s q = rw q (seen_below d (decoded es))
@@ -55,25 +51,6 @@ stepped l d es s x r e w q r-is e-is =
     let e-so = e-is ∙ ap (desk_after d) same in
     (λ z. left (r-so z).answer (set l (q z).place (r-so z).purse) (e-so z))
     ∙ deed_by_record (held l d) (decoded es) ∙ sym (step_by_record (held l d) es w)
-
-pub returns-then-not-table_ok : goal.returns-then-not-table_ok
-returns-then-not-table_ok c =
-    let e = refused c.args.table.now c.args.desk.now c.args.event.now (sym c.table_ok.ensures ∙ c.if-not-table_ok.true) in
-    (ap (λ (a : Answered). a.answer) e, ap (λ (a : Answered). a.held.table) e, ap (λ (a : Answered). a.held.desk) e)
-
-pub offset_bounds-table-at : goal.offset_bounds-table-at
-offset_bounds-table-at c = omega (arith, below c.args.desk.now c.args.event.now c.seen_at-seen.result c.seen_at-seen.ensures)
-
-pub slice_copy_out-written_at : goal.slice_copy_out-written_at
-slice_copy_out-written_at c =
-    inside c.args.table.now c.args.desk.now c.args.event.now c.seen_at-seen.result (sym c.table_ok.ensures ∙ c.if-not-table_ok.false) c.seen_at-seen.ensures
-
-pub offset_bounds-table-at-2 : goal.offset_bounds-table-at-2
-offset_bounds-table-at-2 c = omega (arith, below c.args.desk.now c.args.event.now c.seen_at-seen.result c.seen_at-seen.ensures)
-
-pub bounds-table-at : goal.bounds-table-at
-bounds-table-at c =
-    inside c.args.table.now c.args.desk.now c.args.event.now c.seen_at-seen.result (sym c.table_ok.ensures ∙ c.if-not-table_ok.false) c.seen_at-seen.ensures
 
 pub returns : goal.returns
 returns c =

@@ -1,4 +1,0 @@
-pub mod Elements
-pub mod Lent
-pub mod Over
-pub mod Parts
