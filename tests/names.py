@@ -172,7 +172,7 @@ def equation(fact):
     """Both sides of a fact that says by the arguments alone what the result, a field of it or a lent part is; None of another fact."""
     left, *right = parts(fact, "≡")
     is_left = re.fullmatch(r"(?:answer_of )?result|result\.\w+|\w+′", left)
-    is_right = len(right) == 1 and re.fullmatch(r"[\w .()+*/%-]+", right[0]) and "result" not in terms(right[0])
+    is_right = len(right) == 1 and re.fullmatch(r"[\w .()+*/%&-]+", right[0]) and "result" not in terms(right[0])
     is_right = is_right and not re.search(r"\.(now|old|new)\b", right[0])
     return (left, right[0]) if is_left and is_right else None
 
