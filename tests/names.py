@@ -17,7 +17,7 @@ PAGE = ROOT / "docs/CONTRACTS.md"
 LINK = re.compile(r"\[(`?)([^\]]+?)`?\]\(([^)#\s]+)(?:#[^)]*)?\)")
 FUNCTION = re.compile(r'\s*pub (?:extern "C" )?fn (\w+)')
 HEADER = re.compile(FUNCTION.pattern + r"(?:<[^>]*>)?\(([^)]*)\)(?: -> ([^\n{]+?))?(?: \{$|\n(.*?)^ *\{$)", re.S | re.M)
-COMPARISON = re.compile(r"[\w′ .()+*/%-]+ [≡<≤] [\w′ .()+*/%-]+")
+COMPARISON = re.compile(r"[\w′ .()+*/%-]+ [≡<≤] [\w′ .()+*/%&-]+")
 # The equality of a contract and that of a theorem are one, which the library passes on under other names.
 EQUALITY = dict.fromkeys(["Rattle.std.specs.Prelude", "Rattle.std.proofs.Common"], "mathlib.Core.Path")
 LAWS = {"one": 1, "two": 2, "three": 3, "four": 4}
