@@ -2,14 +2,14 @@
 -- Why: an entry adds its amount for its payer alone, in a log for that log's purse and in the archive for the purse that logged it, each a
 -- purse of the table; so each pair is counted once.
 -- Assumes nothing.
-use Prim.Native.Nat.{ℕ, zero, suc, ◌+◌, ◌*◌, ◌%◌, ◌≤◌, ◌<◌}
+use Prim.Native.Nat.{ℕ, ◌+◌, ◌%◌, ◌≤◌, ◌<◌}
 use mathlib.Core.Path.{◌≡◌, refl, ◌∙◌, sym, ap}
 use mathlib.Core.Bool.{Bool, true, false, ◌||◌, cond}
 use mathlib.Core.Logic.{⊎_elim}
 use mathlib.Core.List.{List, [], ◌∷◌, map}
-use lib.ListN.{length, get_or, length-map, length-append}
+use lib.ListN.{length, get_or}
 use lib.Seq.{get_or-take}
-use lib.Dec.{ltb, leb, eqb}
+use lib.Dec.{ltb, eqb}
 use native.Mathlib.Omega.{arith}
 use borrow.Author.Tests.{eqb-true, eq-eqb, lt-ltb, ltb-true, le-leb}
 use Rattle.purse.specs.declared.Details.{Details}
@@ -17,9 +17,8 @@ use Rattle.purse.specs.declared.Purse.{Purse}
 use Rattle.purse.specs.Lists.{every, all, among, keep, total, sum_to}
 use Rattle.purse.specs.Details.{same_details}
 use Rattle.purse.specs.Purse.{zero_purse}
-use Rattle.purse.proofs.Bools.{and_l, and_r, and_i, which}
-use Rattle.purse.proofs.Lists.{every-all, all_each, all_append, among-append, all_map}
-use Rattle.purse.proofs.Payments.{is_named, entry_named}
+use Rattle.purse.proofs.Bools.{and_l, and_i, which}
+use Rattle.purse.proofs.Lists.{every-all, all_each, among-append}
 use Rattle.purse.proofs.Rules.{wf_bounds, wf_log}
 use Rattle.purse.proofs.Log.{log_long}
 use Rattle.purse.proofs.Count.{all_is, total-keep, total_each, total-map, total-append, total_append_to, sum_same, sum_add, sum_shares}
@@ -33,10 +32,10 @@ use Rattle.rules.specs.Paid.{amount_of, matched_with, matched, claims}
 use Rattle.rules.specs.Laid.{seen, is_zero_purse, is_zero_entry, held_ok}
 use Rattle.rules.proofs.Facts.{details_equal, details_same, count_d, is_table, is_in, is_lists}
 use Rattle.rules.proofs.Places.{places_used, places_fit, obeys, seen_ok}
-use Rattle.rules.proofs.Claims.{logged_legal, loggers, log_few}
+use Rattle.rules.proofs.Claims.{loggers}
 use Rattle.table_records.specs.Records.{collected}
 use Rattle.table_records.proofs.Same.{turn_number}
-use Rattle.claims.specs.Claims.{entry_by, log_entries, payee_logged, claim_beside, entry_claim, bounded, log_fits}
+use Rattle.claims.specs.Claims.{entry_by, log_entries, payee_logged, claim_beside, entry_claim, log_fits}
 
 -- a purse has archived details: the entry is among those collected
 archived_entry : (n : ℕ) (d : Details) (es : List Entry) → among same_details d (archived_by n es) ≡ among same_entry (entry_by n d) es
@@ -95,40 +94,6 @@ module _ (h : Held) (w : held_ok h ≡ true) where
       let well = (is_table b ok).well p less in
       let both : log_fits (purse_at b p) ≡ true = and_i (eq-eqb _ _ (log_long (called p) (purse_at b p) (wf_log (called p) (purse_at b p) well))) (le-leb _ _ (wf_bounds (called p) (purse_at b p) well).logged) in
       rw (at_place p less) at both)
-
-  -- amounts are legal
-  pub entries_bounded : all bounded (collected a) ≡ true
-  unfolding archive_ok
-  entries_bounded =
-      all_each (archive_ok b) bounded b.archive
-      (λ (e : Entry) (k : archive_ok b e ≡ true). le-leb _ _ (is_named e.details (entry_named e.by _ e.details (and_r (in_table b e.details) _ k))).most)
-      (is_lists b ok).entries
-
-  logs_bounded : (k : ℕ) → k ≤ n → all bounded (log_entries k l) ≡ true
-  logs_bounded zero m = refl
-  logs_bounded (suc k) m =
-      let less : k < n = omega arith in
-      let one : all (λ (d : Details). leb (amount_of d) 5000000) (kept (purse_at b k)) ≡ true =
-      and_l _ (all (λ (d : Details). leb (amount_of d) 5000000) (archived_by k b.archive)) (sym (all_append (λ (d : Details). leb (amount_of d) 5000000) (kept (purse_at b k)) (archived_by k b.archive)) ∙ logged_legal b ok k less)
-      in
-      all_append bounded (log_entries k l) (map (entry_by k) (kept (get_or l k zero_purse)))
-      ∙ and_i (logs_bounded k (omega arith)) (all_map bounded (entry_by k) (kept (get_or l k zero_purse)) ∙ rw (at_place k less) at one)
-
-  logs_few : (k : ℕ) → k ≤ n → length (log_entries k l) ≤ 8 * k
-  logs_few zero m = omega arith
-  logs_few (suc k) m =
-      let less : k < n = omega arith in
-      let few : length (kept (get_or l k zero_purse)) ≤ 8 = rw (at_place k less) at (log_few b ok k less) in
-      omega (
-        arith,
-        length-append (log_entries k l) (map (entry_by k) (kept (get_or l k zero_purse))),
-        length-map (kept (get_or l k zero_purse)) (entry_by k),
-        logs_few k (omega arith),
-      )
-
-  -- so the code may add them
-  pub logs_legal : (all bounded (log_entries h.desk.purses l) ≡ true) × (length (log_entries h.desk.purses l) ≤ 256)
-  logs_legal = (logs_bounded h.desk.purses (omega (arith, count_is)), omega (arith, logs_few h.desk.purses (omega (arith, count_is)), few_purses))
 
   -- payees are purses of the table
   payees_logged : (p : ℕ) → p < n → all (λ (d : Details). ltb d.payee.0 n) (kept (purse_at b p)) ≡ true

@@ -3,12 +3,12 @@
 use Rattle.std.specs.Prelude.{ℕ, Bool, ◌&&◌, ◌||◌, cond, List, map, length, get_or, leb, eqb}
 use Rattle.purse.specs.declared.Details.{Details}
 use Rattle.purse.specs.declared.Purse.{Purse}
-use Rattle.purse.specs.Lists.{among, append_to, padded}
-use Rattle.purse.specs.Details.{max_amount, same_details}
+use Rattle.purse.specs.Lists.{among, append_to}
+use Rattle.purse.specs.Details.{same_details}
 use Rattle.purse.specs.Purse.{zero_purse}
 use Rattle.desk.specs.declared.Entry.{Entry}
 use Rattle.desk.specs.declared.Archive.{Archive}
-use Rattle.desk.specs.Desk.{places, zero_entry, same_entry}
+use Rattle.desk.specs.Desk.{same_entry}
 use Rattle.rules.specs.Bench.{called, kept}
 use Rattle.table_records.specs.Records.{collected, record_of}
 
@@ -19,10 +19,6 @@ entry_by n d = record { by = called n; details = d }
 -- the entries of the logs of the first n purses, purse after purse
 abbrev pub log_entries : ℕ → List Purse → List Entry
 log_entries n l = append_to n (λ (p : ℕ). map (entry_by p) (kept (get_or l p zero_purse)))
-
--- as the archive would hold them
-abbrev pub held_as : List Entry → Archive
-held_as es = record { places = padded places zero_entry es; count = length es }
 
 -- the payee of details, p its record, has logged them: "in the purse or in the archive"
 unfoldable pub payee_logged : Purse → Archive → Details → Bool
@@ -35,10 +31,6 @@ claim_beside p a e = cond (eqb e.by.0 e.details.payer.0 && payee_logged p a e.de
 
 abbrev pub entry_claim : List Purse → Archive → Entry → ℕ
 entry_claim l a e = claim_beside (record_of l e.details.payee) a e
-
--- "every ceiling kept"
-abbrev pub bounded : Entry → Bool
-bounded e = leb e.details.amount.0 max_amount
 
 -- the log has its eight places, and no more are used
 abbrev pub log_fits : Purse → Bool

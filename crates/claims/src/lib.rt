@@ -3,102 +3,84 @@
 #![tactic(auto)]
 
 ghost use Rattle.std.specs.Prelude.{◌≡◌, true, map, ◌≤◌, get_or};
-ghost use Rattle.purse.specs.Lists.{every, all, total};
+ghost use Rattle.purse.specs.Lists.{every, total};
 ghost use Rattle.purse.specs.Purse.{zero_purse};
 ghost use Rattle.rules.specs.Laid.{held_claims};
-ghost use Rattle.table_records.specs.Records.{entry_key, collected};
-ghost use Rattle.claims.specs.Claims.{log_entries, held_as, entry_claim, bounded, log_fits};
+ghost use Rattle.table_records.specs.Records.{entry_key, collected, record_of};
+ghost use Rattle.claims.specs.Claims.{log_entries, payee_logged, entry_claim, log_fits};
 
 use desk::{Archive, Entry, Figure, Held};
-use purse::{Name, Purse};
-use table_records::places::{key, place};
+use purse::{Details, Name, Purse};
+use table_records::apart::{Placed, is_among};
+use table_records::places::place;
 use table_records::records::in_log;
 
 // The key of each archive place.
-fn keys_of(a: Archive) -> [u32; 256]
-    ensures { result ≡ map entry_key a.places }
+fn keys_of(places: &[Entry; 256]) -> [u32; 256]
+    ensures { result ≡ map entry_key places.now }
 {
     let mut keys: [u32; 256] = [0; 256];
-    let mut i: usize = 0;
-    while i < 256 {
-        let e = a.places[i];
-        keys[i] = key(e.by.0, e.details);
-        i += 1;
+    for i in 0..256 {
+        keys[i] = places[i].key();
     }
     keys
 }
 
-// The entries of all logs, purse after purse, as the archive would hold them.
-fn logs(table: [Purse; 32], purses: u8) -> Archive
-    requires { (purses ≤ 32) × (every purses (λ p. log_fits (get_or table p zero_purse)) ≡ true) }
-    ensures { result ≡ held_as (log_entries purses table) }
+// Whether the payee of details has logged them too, in its log or in the archive; these are the archive's keys.
+fn has_logged(d: Details, table: &[Purse; 32], archive: &Archive, keys: &[u32; 256]) -> bool
+    requires { (archive.now.count ≤ 256) × (keys.now ≡ map entry_key archive.now.places) }
+    ensures { result ≡ payee_logged (record_of table.now d.payee) archive.now d }
 {
-    let unused = Entry::zero();
-    let mut places = [unused; 256];
-    let mut n: usize = 0;
-    let mut own: u8 = 0;
-    while own < purses {
-        let p = table[own as usize];
-        let count = p.logged as usize;
-        let mut i: usize = 0;
-        while i < count {
-            let d = p.log[i];
-            let e = Entry {
-                by: Name(own),
-                details: d,
-            };
-            places[n] = e;
-            n += 1;
-            i += 1;
-        }
-        own += 1;
-    }
-    Archive {
-        places: places,
-        count: n as u16,
+    let payee = place(d.payee);
+    let many = archive.count as usize;
+    let by = d.payee;
+    let partner = Entry { by: by, details: d };
+    in_log(&table[payee], d) || is_among(&partner, &archive.places[..many], &keys[..many])
+}
+
+// What an entry adds: its amount, where the purse that logged it is its payer, and its payee has logged it too.
+#[tactic(auto, unfolding(crate::specs::Claims::claim_beside))]
+fn claim_of(e: Entry, table: &[Purse; 32], archive: &Archive, keys: &[u32; 256]) -> u32
+    requires { (archive.now.count ≤ 256) × (keys.now ≡ map entry_key archive.now.places) }
+    ensures { result ≡ entry_claim table.now archive.now e }
+{
+    let d = e.details;
+    if (e.by == d.payer) && has_logged(d, table, archive, keys) {
+        d.amount.0
+    } else {
+        0
     }
 }
 
-// What these entries add: each its amount, where the purse that logged it is its payer, and its payee has logged it too, in its log or in
-// the archive. There it is looked for by its key, and all entries are looked through only where the key is found.
-fn sum(table: [Purse; 32], a: Archive, keys: [u32; 256], es: Archive) -> u32
-    requires { (keys ≡ map entry_key a.places) × (a.count ≤ 256) × (es.count ≤ 256) × (all bounded (collected es) ≡ true) }
-    ensures { result ≡ total (entry_claim table a) (collected es) }
+// What the archive's entries add.
+fn sum_of_archive(table: &[Purse; 32], archive: &Archive, keys: &[u32; 256]) -> u64
+    requires { (archive.now.count ≤ 256) × (keys.now ≡ map entry_key archive.now.places) }
+    ensures { result ≡ total (entry_claim table.now archive.now) (collected archive.now) }
 {
-    let many = a.count as usize;
-    let count = es.count as usize;
-    let mut sum: u32 = 0;
-    let mut i: usize = 0;
-    while i < count {
-        let e = es.places[i];
-        let d = e.details;
-        let other = place(d.payee);
-        let p = table[other];
-        let payer = e.by.0 == d.payer.0;
-        let by = d.payee;
-        let partner = Entry { by: by, details: d };
-        let k = key(d.payee.0, d);
-        let on_card = in_log(&p, d);
-        let last = if payer & !on_card { many } else { 0 };
-        let mut hit = false;
-        let mut s: usize = 0;
-        while s < last {
-            hit = hit | (k == keys[s]);
-            s += 1;
+    let many = archive.count as usize;
+    let mut sum: u64 = 0;
+    for e in &archive.places[..many] {
+        sum += claim_of(*e, table, archive, keys) as u64;
+    }
+    sum
+}
+
+// What the entries of the logs of that many purses add.
+fn sum_of_logs(purses: u8, table: &[Purse; 32], archive: &Archive, keys: &[u32; 256]) -> u64
+    requires { (archive.now.count ≤ 256) × (keys.now ≡ map entry_key archive.now.places) × (purses ≤ 32) × (every purses (λ p. log_fits (get_or table.now p zero_purse)) ≡ true) }
+    ensures { result ≡ total (entry_claim table.now archive.now) (log_entries purses table.now) }
+{
+    let mut sum: u64 = 0;
+    for own in 0..purses {
+        let p = &table[own as usize];
+        let logged = p.logged as usize;
+        for i in 0..logged {
+            let e = Entry {
+                by: Name(own),
+                details: p.log[i],
+            };
+            sum += claim_of(e, table, archive, keys) as u64;
         }
-        let end = if hit { last } else { 0 };
-        let mut logged = on_card;
-        let mut j: usize = 0;
-        while (j < end) & !logged {
-            let o = a.places[j];
-            logged = logged | partner.same(o);
-            j += 1;
-        }
-        let owed = payer & logged;
-        if owed {
-            sum += d.amount.0;
-        }
-        i += 1;
     }
     sum
 }
@@ -107,16 +89,14 @@ pub fn claims(held: Held) -> Figure
     ensures { result ≡ held_claims held }
 {
     if table::held_ok(held) {
-        let table = held.table;
-        let desk = held.desk;
-        let a = desk.archive;
-        let keys = keys_of(a);
-        let on_cards = logs(table, desk.purses);
-        let cards = sum(table, a, keys, on_cards);
-        let rest = sum(table, a, keys, a);
+        let table = &held.table;
+        let archive = &held.desk.archive;
+        let keys = keys_of(&archive.places);
+        let cards = sum_of_logs(held.desk.purses, table, archive, &keys);
+        let rest = sum_of_archive(table, archive, &keys);
         Figure {
             answer: 0,
-            claims: cards + rest,
+            claims: (cards + rest) as u32,
         }
     } else {
         Figure {

@@ -65,10 +65,6 @@ module _ {A : Type 0} (same : A → A → Bool) (key : A → ℕ) (alike : (x y 
   keyed_before x l ks i h e =
       e ∙ ap (λ (ms : List ℕ). among eqb (key x) ms && among same x (take i l)) h.1 ∙ keyed x (take i l)
 
-  pub no_key : (x : A) (l : List A) (ks : List ℕ) (i j k : ℕ) {hit : Bool} → Keyed key l ks i → k ≡ key x → j ≡ i → hit ≡ among eqb k (take j ks) → hit ≡ false → among same x (take i l) ≡ false
-  no_key x l ks i j k h e q a f =
-      none_keyed x (take i l) (ap (λ (m : ℕ). among eqb m (map key (take i l))) (sym e) ∙ (ap (among eqb k) (sym h.1) ∙ (ap (λ (m : ℕ). among eqb k (take m ks)) (sym q) ∙ (sym a ∙ f))))
-
   -- all the keys
   pub keys_all : (l : List A) (ks : List ℕ) → length l ≡ 256 → Keyed key l ks 256 → ks ≡ map key l
   keys_all l ks long h =

@@ -1,7 +1,11 @@
 -- What the code asks of messages and archive entries alike: the derived equality is the rules' one, and equal ones have the same key.
 use mathlib.Core.Path.{◌≡◌, sym, ap, ◌∙◌}
 use mathlib.Core.Bool.{Bool, true, ◌&&◌, and_assoc}
-use lib.Dec.{eqb}
+use mathlib.Core.List.{List}
+use Prim.Native.Nat.{ℕ}
+use lib.ListN.{length}
+use lib.Dec.{leb, eqb}
+use Rattle.purse.specs.Lists.{among, distinct}
 use Rattle.purse.specs.declared.Details.{Details}
 use Rattle.purse.specs.declared.Message.{Message}
 use Rattle.purse.specs.Details.{same_details, same_message}
@@ -9,6 +13,14 @@ use Rattle.desk.specs.declared.Entry.{Entry}
 use Rattle.desk.specs.Desk.{same_entry}
 use Rattle.rules.proofs.Facts.{message_equal, entry_equal}
 use Rattle.table_records.specs.Records.{message_key, entry_key}
+
+-- x is among the places l, whose keys are ks: its key is among them, and it is itself
+abbrev pub found : {A : Type 0} → (A → ℕ) → (A → A → Bool) → A → List A → List ℕ → Bool
+found key same x l ks = among eqb (key x) ks && among same x l
+
+-- 256 places at most, no two of them the same
+abbrev pub apart : {A : Type 0} → (A → A → Bool) → List A → Bool
+apart same l = leb (length l) 256 && distinct same l
 
 -- the derived equality is the rules', field by field
 abbrev pub eq_details : Details → Details → Bool

@@ -103,21 +103,13 @@ record_ok n i p = cond (ltb i n) (well_formed (called i) p && names_ok n p) (is_
 unfoldable pub records_ok : ℕ → List Purse → Bool
 records_ok n l = every 32 (λ (i : ℕ). record_ok n i (get_or l i zero_purse))
 
--- the messages that stand: no more than the places, each beside the records that it names, "No two messages are equal"
-unfoldable pub standing_ok : ℕ → List Purse → Ether → Bool
-standing_ok n l e = leb e.count 256 && all (message_in n l) (standing e) && distinct same_message (standing e)
-
--- the entries collected, likewise: no purse has the same details twice among its archive entries
-unfoldable pub collected_ok : ℕ → List Purse → Archive → Bool
-collected_ok n l a = leb a.count 256 && all (entry_in n l) (collected a) && distinct same_entry (collected a)
-
--- the messages: their count, the unused places, and those that stand
+-- the messages: their count, the unused places, and those that stand, each beside the records that it names, "No two messages are equal"
 unfoldable pub messages_ok : ℕ → List Purse → Ether → Bool
 messages_ok n l e =
     places_ok is_zero_message 256 e.count e.places && all (message_in n l) (standing e)
     && distinct same_message (standing e)
 
--- the archive, likewise
+-- the archive, likewise: no purse has the same details twice among its archive entries
 unfoldable pub entries_ok : ℕ → List Purse → Archive → Bool
 entries_ok n l a =
     places_ok is_zero_entry 256 a.count a.places && all (entry_in n l) (collected a)

@@ -1,9 +1,9 @@
 // The 256 places of the ether and of the archive: the used ones apart, the unused ones zero.
-ghost use Rattle.std.specs.Prelude.{◌≡◌, true, ℕ, Bool, ◌&&◌, length, leb, eqb};
-ghost use Rattle.purse.specs.Lists.{all, among, distinct};
+ghost use Rattle.std.specs.Prelude.{◌≡◌, true, ℕ, Bool, eqb};
+ghost use Rattle.purse.specs.Lists.{all, among};
 ghost use Rattle.rules.specs.Laid.{places_ok, is_zero_message, is_zero_entry};
 ghost use Rattle.table_records.specs.Records.{message_key, entry_key};
-ghost use Rattle.table_records.specs.Placed.{message_alike, entry_alike};
+ghost use Rattle.table_records.specs.Placed.{found, apart, message_alike, entry_alike};
 
 use crate::places::key;
 use desk::Entry;
@@ -71,14 +71,14 @@ fn is_key_among(key: u32, keys: &[u32]) -> bool
 
 // Whether x is among the used places, whose keys these are: they are looked through only where its key is found.
 pub fn is_among<T: Placed>(x: &T, used: &[T], keys: &[u32]) -> bool
-    ensures { result ≡ (among eqb (T.key_of x.now) keys.now && among T.eq x.now used.now) }
+    ensures { result ≡ found T.key_of T.eq x.now used.now keys.now }
 {
     is_key_among(x.key(), keys) && used.contains(x)
 }
 
 // Whether the used places are 256 at most, and no two of them are equal.
 pub fn are_apart<T: Placed>(used: &[T]) -> bool
-    ensures { result ≡ (leb (length used.now) 256 && distinct T.eq used.now) }
+    ensures { result ≡ apart T.eq used.now }
 {
     if 256 < used.len() {
         return false;
