@@ -40,8 +40,8 @@ pub(crate) fn each(held: Held, input: &[u8], answers: &mut [u8], n: usize) -> He
         let asked = ask(seen, event);
         let t = tell(Head::from(p), asked);
         let mut answer = t.answer;
-        // from 2 up nothing changes
-        if t.answer == 0 {
+        let moves = t.answer == 0; // from 2 up nothing changes
+        if moves {
             table[place] = card::record(p, t.head, t.log);
             match change_of(p, asked, t.message) {
                 Change::Nothing => {}

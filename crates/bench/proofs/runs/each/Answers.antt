@@ -20,7 +20,7 @@ use Prim.Native.Nat.{ℕ, ◌+◌, ◌*◌, ◌-◌, ◌<◌}
 use mathlib.Core.Path.{◌≡◌, refl, ◌∙◌, ap}
 use native.Mathlib.Omega.{arith}
 use Rattle.bench.proofs.runs.each.Goals as goal
-use Rattle.bench.proofs.runs.each.Goals.{then-t-eq0+in-Nothing, then-t-eq0+in-Send, then-t-eq0+in-Lose, then-t-eq0+in-Store, then-t-eq0+in-Issue, else-t-eq0}
+use Rattle.bench.proofs.runs.each.Goals.{then-moves+in-Nothing, then-moves+in-Send, then-moves+in-Lose, then-moves+in-Store, then-moves+in-Issue, else-moves}
 
 pub loop-i-preserved : goal.loop-i-preserved
 loop-i-preserved c =
@@ -43,26 +43,26 @@ loop-i-preserved c =
     by_asked h k a t v _ _ _ long.1 refl (at_any h.table k _ zero_purse inside) m c.look-seen.ensures c.ask-asked.ensures
     (c.tell-t.ensures ∙ ap (λ (d : Head). told_at d a) c.from.ensures)
     in
-    let s : Answered = record { answer = c.if-t-eq0.answer; held = bench c.if-t-eq0.table c.if-t-eq0.purses c.if-t-eq0.ether c.if-t-eq0.archive } in
+    let s : Answered = record { answer = c.if-moves.answer; held = bench c.if-moves.table c.if-moves.purses c.if-moves.ether c.if-moves.archive } in
     let done : s ≡ settled_at h k a t =
-    elim c.if-t-eq0.branch [
-      | then-t-eq0+in-Nothing w ↦
+    elim c.if-moves.branch [
+      | then-moves+in-Nothing w ↦
           rw (w.table-is, w.purses-is, w.ether-is, w.archive-is, w.answer-is)
-          (when-nothing h k a t w.if-t-eq0.true _ (at_any h.table k _ zero_purse inside) _ w.record.ensures _ w.change_of.ensures w.in-Nothing.is)
-      | then-t-eq0+in-Send w ↦
+          (when-nothing h k a t w.if-moves.true _ (at_any h.table k _ zero_purse inside) _ w.record.ensures _ w.change_of.ensures w.in-Nothing.is)
+      | then-moves+in-Send w ↦
           rw (w.table-is, w.purses-is, w.ether-is, w.archive-is, w.answer-is)
-          (when_sent h k a t w.if-t-eq0.true _ (at_any h.table k _ zero_purse inside) _ w.record.ensures _ w.change_of.ensures _ w.add-changed.result _ w.in-Send.is w.add-changed.ensures w.from-answer.ensures)
-      | then-t-eq0+in-Lose w ↦
+          (when_sent h k a t w.if-moves.true _ (at_any h.table k _ zero_purse inside) _ w.record.ensures _ w.change_of.ensures _ w.add-changed.result _ w.in-Send.is w.add-changed.ensures w.from-answer.ensures)
+      | then-moves+in-Lose w ↦
           rw (w.table-is, w.purses-is, w.ether-is, w.archive-is, w.answer-is)
-          (when_lost h k a t w.if-t-eq0.true _ (at_any h.table k _ zero_purse inside) _ w.record.ensures _ w.change_of.ensures _ w.take_out.result w.in-Lose.is w.take_out.ensures)
-      | then-t-eq0+in-Store w ↦
+          (when_lost h k a t w.if-moves.true _ (at_any h.table k _ zero_purse inside) _ w.record.ensures _ w.change_of.ensures _ w.take_out.result w.in-Lose.is w.take_out.ensures)
+      | then-moves+in-Store w ↦
           rw (w.table-is, w.purses-is, w.ether-is, w.archive-is, w.answer-is)
-          (when-stored h k a t w.if-t-eq0.true _ (at_any h.table k _ zero_purse inside) _ w.record.ensures _ w.change_of.ensures _ w.store-archive.result w.in-Store.is w.store-archive.ensures)
-      | then-t-eq0+in-Issue w ↦
+          (when-stored h k a t w.if-moves.true _ (at_any h.table k _ zero_purse inside) _ w.record.ensures _ w.change_of.ensures _ w.store-archive.result w.in-Store.is w.store-archive.ensures)
+      | then-moves+in-Issue w ↦
           rw (w.table-is, w.purses-is, w.ether-is, w.archive-is, w.answer-is)
-          (when_issued h k a t w.if-t-eq0.true _ (at_any h.table k _ zero_purse inside) _ w.record.ensures _ w.change_of.ensures _ w.in-Issue.is w.one_more-purses.ensures)
-      | else-t-eq0 w ↦
-          rw (w.table-is, w.purses-is, w.ether-is, w.archive-is, w.answer-is) (when-refused h k a t w.if-t-eq0.false)
+          (when_issued h k a t w.if-moves.true _ (at_any h.table k _ zero_purse inside) _ w.record.ensures _ w.change_of.ensures _ w.in-Issue.is w.one_more-purses.ensures)
+      | else-moves w ↦
+          rw (w.table-is, w.purses-is, w.ether-is, w.archive-is, w.answer-is) (when-refused h k a t w.if-moves.false)
     ]
     in
     let twelve : 12 * i + 12 - 12 * i ≡ 12 = omega arith in
