@@ -4,14 +4,14 @@
 
 mod states; // states.rt: a whole state as bytes
 
-ghost use Rattle.std.specs.Prelude.{◌≤◌, ◌<◌, length, ◌≡◌, IfOk, OnOk};
+ghost use Rattle.std.specs.Prelude.{◌<◌, IfOk};
 
 use crate::states::STATE_WIDTH;
-use bigendian::{count_at, number_at, put_byte, put_count, put_number, wide};
+use bigendian::{number_at, put_byte, put_count, put_number};
 use desk::Held;
 use layout::widths::{BYTE_WIDTH, DETAILS_WIDTH, MESSAGE_WIDTH, NUMBER_WIDTH, PURSE_WIDTH};
 use parts::{get_message, get_purse, put_details, put_message, put_purse};
-use purse::{Amount, CardEvent, Message, Name, Seq};
+use purse::{Amount, CardEvent, Name, Seq};
 use std::io;
 use std::io::{ErrorKind, Read};
 
@@ -31,113 +31,88 @@ impl From<io::Error> for End {
     }
 }
 
-fn write_state(rt: &impl Print, held: Held) -> Result<(), End> {
-    let mut bytes = [0u8; STATE_WIDTH];
-    states::put_state(&mut bytes, held);
-    rt.write_all(&bytes)?;
-    Ok(())
+// The next bytes of the input, as many as the array has.
+fn next<const N: usize>(rt: &HostRuntime) -> Result<[u8; N], End> {
+    let mut bytes = [0; N];
+    rt.stdin().read_exact(&mut bytes)?;
+    Ok(bytes)
+}
+
+// So many bytes of the input, at the start of a buffer, if it has room for them.
+fn filled<'a>(rt: &HostRuntime, space: &'a mut [u8], n: usize) -> Result<&'a mut [u8], End> {
+    let bytes = space.get_mut(..n).ok_or(End::NoRequest)?;
+    rt.stdin().read_exact(bytes)?;
+    Ok(bytes)
+}
+
+// A length of one byte, and of two.
+fn short_length(rt: &HostRuntime) -> Result<usize, End>
+    ensures { IfOk result (λ n. n < 256) }
+{
+    Ok(usize::from(u8::from_be_bytes(next(rt)?)))
+}
+
+fn length(rt: &HostRuntime) -> Result<usize, End> {
+    Ok(usize::from(u16::from_be_bytes(next(rt)?)))
+}
+
+// The state that a request is over.
+fn state(rt: &HostRuntime) -> Result<Held, End> {
+    let bytes: [u8; STATE_WIDTH] = next(rt)?;
+    Ok(states::state(&bytes))
 }
 
 // An answer and the state after it.
 fn reply(rt: &impl Print, answer: u8, held: Held) -> Result<(), End> {
+    let mut bytes = [0; STATE_WIDTH];
+    states::put_state(&mut bytes, held);
     rt.write_all(&[answer])?;
-    write_state(rt, held)
-}
-
-// So many bytes of the input at the start of a buffer, if it has room for them.
-fn fill(rt: &HostRuntime, bytes: &mut [u8], n: usize) -> Result<(), End>
-    ensures room { OnOk result (n ≤ length bytes.new) }
-    ensures bytes_len_unchanged { length bytes.new ≡ length bytes.old }
-{
-    if bytes.len() < n {
-        return Err(End::NoRequest);
-    }
-    rt.stdin().read_exact(&mut bytes[..n])?;
+    rt.write_all(&bytes)?;
     Ok(())
-}
-
-// A length of one byte.
-fn size1(rt: &HostRuntime) -> Result<usize, End>
-    ensures { IfOk result (λ n. n < 256) }
-{
-    let mut one = [0u8; 1];
-    rt.stdin().read_exact(&mut one)?;
-    Ok(wide(one[0]) as usize)
-}
-
-// A length of two bytes.
-fn size2(rt: &HostRuntime) -> Result<usize, End> {
-    let mut two = [0u8; 2];
-    rt.stdin().read_exact(&mut two)?;
-    Ok(count_at(&two, 0) as usize)
 }
 
 // An event: length 1, that many bytes.
-fn event(rt: &HostRuntime, held: Held, bytes: &mut [u8]) -> Result<(), End> {
-    let n = size1(rt)?;
-    fill(rt, bytes, n)?;
-    let a = bench::event(held, &bytes[..n]);
-    let after = a.held;
-    reply(rt, a.answer, after)
-}
-
-// The numbers of so many balances.
-fn balances(bytes: &[u8], n: usize) -> [u32; 256]
-    requires { n ≤ 255 }
-{
-    let mut all = [0u32; 256];
-    for i in 0..n {
-        all[i] = number_at(bytes, NUMBER_WIDTH * i);
-    }
-    all
+fn event(rt: &HostRuntime, held: Held, space: &mut [u8]) -> Result<(), End> {
+    let n = short_length(rt)?;
+    let answered = bench::event(held, filled(rt, space, n)?);
+    reply(rt, answered.answer, answered.held)
 }
 
 // An opening: number of balances 1, 4 bytes each.
-fn opening(rt: &HostRuntime, held: Held, bytes: &mut [u8]) -> Result<(), End> {
-    let n = size1(rt)?;
-    fill(rt, bytes, NUMBER_WIDTH * n)?;
-    let all = balances(bytes, n);
-    let a = opens::opening(held, &all[..n]);
-    let after = a.held;
-    reply(rt, a.answer, after)
+fn opening(rt: &HostRuntime, held: Held, space: &mut [u8]) -> Result<(), End> {
+    let n = short_length(rt)?;
+    let bytes = filled(rt, space, NUMBER_WIDTH * n)?;
+    let mut balances = [0; 256];
+    for (balance, number) in balances.iter_mut().zip(bytes.chunks_exact(NUMBER_WIDTH)) {
+        *balance = number_at(number, 0);
+    }
+    let answered = opens::opening(held, &balances[..n]);
+    reply(rt, answered.answer, answered.held)
 }
 
 // A read: length 2, image bytes.
-fn read(rt: &HostRuntime, held: Held, bytes: &mut [u8]) -> Result<(), End> {
-    let n = size2(rt)?;
-    fill(rt, bytes, n)?;
-    let a = image::read(held, &bytes[..n]);
-    let after = a.held;
-    reply(rt, a.answer, after)
+fn read(rt: &HostRuntime, held: Held, space: &mut [u8]) -> Result<(), End> {
+    let n = length(rt)?;
+    let answered = image::read(held, filled(rt, space, n)?);
+    reply(rt, answered.answer, answered.held)
 }
 
-// A write into a buffer of so many bytes, which the caller has filled with AA hex.
-fn write_into(rt: &impl Print, held: Held, bytes: &mut [u8]) -> Result<(), End> {
-    let w = image::write(held, bytes);
-    let answer = w.answer;
-    let short = (w.length % 65536) as u16;
-    let mut head = [answer, 0, 0];
-    put_count(&mut head, BYTE_WIDTH, short);
+// A write: buffer length 2. The buffer is filled with AA hex.
+fn write(rt: &HostRuntime, held: Held, space: &mut [u8]) -> Result<(), End> {
+    let n = length(rt)?;
+    let out = space.get_mut(..n).ok_or(End::NoRequest)?;
+    let written = image::write(held, out);
+    let mut head = [written.answer, 0, 0];
+    put_count(&mut head, BYTE_WIDTH, (written.length % 65536) as u16);
     rt.write_all(&head)?;
-    rt.write_all(bytes)?;
+    rt.write_all(out)?;
     Ok(())
 }
 
-// A write: buffer length 2.
-fn write(rt: &HostRuntime, held: Held, bytes: &mut [u8]) -> Result<(), End> {
-    let n = size2(rt)?;
-    if bytes.len() < n {
-        return Err(End::NoRequest);
-    }
-    write_into(rt, held, &mut bytes[..n])
-}
-
 fn claims(rt: &impl Print, held: Held) -> Result<(), End> {
-    let f = claims::claims(held);
-    let answer = f.answer;
-    let mut out = [answer, 0, 0, 0, 0];
-    let figure = f.claims;
-    put_number(&mut out, BYTE_WIDTH, figure);
+    let figure = claims::claims(held);
+    let mut out = [figure.answer, 0, 0, 0, 0];
+    put_number(&mut out, BYTE_WIDTH, figure.claims);
     rt.write_all(&out)?;
     Ok(())
 }
@@ -164,69 +139,46 @@ const HANDED: usize = SENT + MESSAGE_WIDTH;
 
 const REPLY_WIDTH: usize = HANDED + DETAILS_WIDTH;
 
-// What a card is told by a request of that kind; an abort for a kind that there is not, which is never asked.
-fn told(kind: u8, other: Name, seq: Seq, amount: Amount, m: Message) -> CardEvent {
-    match kind {
-        1 => CardEvent::StartFrom { other, seq, amount },
-        2 => CardEvent::StartTo { other, seq, amount },
-        3 => CardEvent::Deliver(m),
-        6 => CardEvent::Collect,
-        8 => CardEvent::Load(amount),
-        _ => CardEvent::Abort,
+// What the card is told by a request; none for a kind that there is not.
+fn told(bytes: &[u8; CARD_WIDTH]) -> Option<CardEvent> {
+    let other = Name(bytes[COUNTERPARTY]);
+    let seq = Seq(number_at(bytes, NUMBER));
+    let amount = Amount(number_at(bytes, AMOUNT));
+    match bytes[KIND] {
+        1 => Some(CardEvent::StartFrom { other, seq, amount }),
+        2 => Some(CardEvent::StartTo { other, seq, amount }),
+        3 => Some(CardEvent::Deliver(get_message(bytes, MESSAGE))),
+        4 => Some(CardEvent::Abort),
+        6 => Some(CardEvent::Collect),
+        8 => Some(CardEvent::Load(amount)),
+        _ => None,
     }
 }
 
 // A card's step.
 fn card_step(rt: &HostRuntime) -> Result<(), End> {
-    let mut bytes = [0u8; CARD_WIDTH];
-    rt.stdin().read_exact(&mut bytes)?;
-    let kind = bytes[KIND];
-    let is_known = (1 <= kind) & (kind <= 8) & !(kind == 5) & !(kind == 7);
-    if !is_known {
-        return Err(End::NoRequest);
-    }
-    let own = Name(bytes[0]);
-    let p = get_purse(&bytes, RECORD);
-    let other = Name(bytes[COUNTERPARTY]);
-    let seq = Seq(number_at(&bytes, NUMBER));
-    let amount = Amount(number_at(&bytes, AMOUNT));
-    let asked = get_message(&bytes, MESSAGE);
-    let e = told(kind, other, seq, amount, asked);
-    let a = card::step(p, own, e);
-    let q = a.purse;
-    let m = a.message;
-    let d = a.entry;
-    let mut out = [0u8; REPLY_WIDTH];
-    put_byte(&mut out, 0, a.answer);
-    put_purse(&mut out, RECORD, q);
-    put_message(&mut out, SENT, m);
-    put_details(&mut out, HANDED, d);
+    let bytes: [u8; CARD_WIDTH] = next(rt)?;
+    let event = told(&bytes).ok_or(End::NoRequest)?;
+    let answered = card::step(get_purse(&bytes, RECORD), Name(bytes[0]), event);
+    let mut out = [0; REPLY_WIDTH];
+    put_byte(&mut out, 0, answered.answer);
+    put_purse(&mut out, RECORD, answered.purse);
+    put_message(&mut out, SENT, answered.message);
+    put_details(&mut out, HANDED, answered.entry);
     rt.write_all(&out)?;
     Ok(())
 }
 
-// A request over a state.
-fn over_state(rt: &HostRuntime, letter: u8) -> Result<(), End> {
-    let mut bytes = [0u8; STATE_WIDTH];
-    rt.stdin().read_exact(&mut bytes)?;
-    let held = states::state(&bytes);
-    let mut space = [0xAAu8; 65535];
-    match letter {
-        b'E' => event(rt, held, &mut space),
-        b'O' => opening(rt, held, &mut space),
-        b'R' => read(rt, held, &mut space),
-        b'W' => write(rt, held, &mut space),
-        _ => claims(rt, held),
-    }
-}
-
 // One request and its reply.
 fn request(rt: &HostRuntime) -> Result<(), End> {
-    let mut letter = [0u8; 1];
-    rt.stdin().read_exact(&mut letter)?;
-    let l = letter[0];
-    match l {
-        b'C' | b'E' | b'O' | b'R' | b'W' => over_state(rt, l),
+    let [letter]: [u8; 1] = next(rt)?;
+    let mut space = [0xAA; 65535];
+    match letter {
+        b'C' => claims(rt, state(rt)?),
+        b'E' => event(rt, state(rt)?, &mut space),
+        b'O' => opening(rt, state(rt)?, &mut space),
+        b'R' => read(rt, state(rt)?, &mut space),
+        b'W' => write(rt, state(rt)?, &mut space),
         b'P' => card_step(rt),
         _ => Err(End::NoRequest),
     }
