@@ -6,10 +6,11 @@ use native.Mathlib.Nat.{add-zero, mul-zero, mul-suc}
 use native.Mathlib.Numerals.{add-one}
 use native.Mathlib.Omega.{arith}
 use mathlib.Core.List.{List, [], ◌∷◌, ◌++◌, append_assoc, append-nil}
-use lib.ListN.{length, set, replicate}
+use lib.ListN.{length, drop, get_or, set, replicate, length-replicate}
+use Rattle.std.proofs.lemmas.List.{drop-replicate}
 use borrow.Author.Tests.{le-leb, lt-leb}
-use lib.Seq.{set_at}
-use Rattle.bigendian.specs.Bytes.{many, places_in}
+use lib.Seq.{set_at, drop-cons, drop-length}
+use Rattle.bigendian.specs.Bytes.{many, get_first}
 use Rattle.bigendian.proofs.Coded.{length-many}
 
 -- where a loop stands that reads values from the place at on into k places, z at each unused one: i of them are read, the places are xs,
@@ -51,22 +52,35 @@ module _ {A : Type 0} (g : List ℕ → ℕ → A) (w : ℕ) where
     pub filled_all : (n : ℕ) {xs : List A} {i from : ℕ} → i ≡ n → Filled g w l at k z xs i from → xs ≡ many g w n l at ++ replicate (k - n) z
     filled_all n e p = rw (← e) p.filled
 
-    -- every place is filled
-    pub filled_full : {xs : List A} {i from : ℕ} → i ≡ k → Filled g w l at k z xs i from → xs ≡ many g w k l at
-    filled_full e p =
-        let none : k - k ≡ 0 = omega arith in
-        filled_all k e p ∙ rw none (append-nil (many g w k l at))
+-- the loop that writes such values over the places xs: one more, and how it ends
+module _ {A : Type 0} (g : List ℕ → ℕ → A) (w : ℕ) (l : List ℕ) (at : ℕ) (xs : List A) where
+  pub got_more : (i : ℕ) {ys : List A} {v : A} → i < length xs → ys ≡ many g w i l at ++ drop i xs → v ≡ g l (at + w * i)
+      → set ys i v ≡ many g w (i + 1) l at ++ drop (i + 1) xs
+  got_more i {ys} {v} h p q =
+      rw (p, q, drop-cons xs i v h, many_more g w i l at, add-one i)
+      (set_at (many g w i l at) (get_or xs i v) (drop (suc i) xs) (g l (at + w * i)) i (length-many g w i l at)
+      ∙ sym (append_assoc (many g w i l at) (g l (at + w * i) ∷ []) (drop (suc i) xs)))
 
--- so many values in their places, or none
-module _ {A : Type 0} (g : List ℕ → ℕ → A) (w k : ℕ) (z : A) (n : ℕ) (l : List ℕ) (at : ℕ) where
-  pub places_there : n ≤ k → w * n ≤ length l - at → places_in g w k z n l at ≡ many g w n l at ++ replicate (k - n) z
-  unfolding places_in
-  places_there h room = rw (le-leb n k h, le-leb (w * n) (length l - at) room)
+  pub first_got : (n : ℕ) → n ≤ length xs → w * n ≤ length l - at → get_first g w xs n l at ≡ many g w n l at ++ drop n xs
+  unfolding get_first
+  first_got n h room = rw (le-leb n (length xs) h, le-leb (w * n) (length l - at) room)
 
-  pub places_above : k < n → places_in g w k z n l at ≡ replicate k z
-  unfolding places_in
-  places_above h = rw (lt-leb n k h)
+  -- every place is written
+  pub first_whole : (n : ℕ) → length xs ≡ n → w * n ≤ length l - at → get_first g w xs n l at ≡ many g w n l at
+  first_whole n e room = first_got n (omega arith) room ∙ rw (← e, drop-length xs) (append-nil (many g w (length xs) l at))
 
-  pub places_missing : n ≤ k → length l - at < w * n → places_in g w k z n l at ≡ replicate k z
-  unfolding places_in
-  places_missing h room = rw (le-leb n k h, lt-leb (w * n) (length l - at) room)
+  pub first_left : (n : ℕ) → length xs < n → get_first g w xs n l at ≡ xs
+  unfolding get_first
+  first_left n h = rw (lt-leb n (length xs) h)
+
+  pub first_missing : (n : ℕ) → n ≤ length xs → length l - at < w * n → get_first g w xs n l at ≡ xs
+  unfolding get_first
+  first_missing n h room = rw (le-leb n (length xs) h, lt-leb (w * n) (length l - at) room)
+
+-- over places that are all z: n values, and z behind them
+module _ {A : Type 0} (g : List ℕ → ℕ → A) (w k : ℕ) (z : A) where
+  pub got_over : (l : List ℕ) (at n : ℕ) {y : A} → y ≡ z → n ≤ k → w * n ≤ length l - at
+      → get_first g w (replicate k y) n l at ≡ many g w n l at ++ replicate (k - n) z
+  got_over l at n e h room =
+      let fits : n ≤ length (replicate k z) = rw (length-replicate k z) h in
+      rw e (first_got g w l at (replicate k z) n fits room ∙ ap (λ (ys : List A). many g w n l at ++ ys) (drop-replicate n k z))

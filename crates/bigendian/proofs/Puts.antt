@@ -3,12 +3,12 @@
 -- Assumes nothing.
 use mathlib.Core.Path.{◌≡◌, refl, sym, ap, ◌∙◌}
 use Prim.Native.Nat.{ℕ, suc, ◌+◌, ◌*◌, ◌-◌, ◌≤◌, ◌<◌}
-use native.Mathlib.Nat.{add-zero, mul-zero, mul-suc}
+use native.Mathlib.Nat.{add-zero, mul-zero, mul-suc, mul-le-mul_left}
 use native.Mathlib.Numerals.{add-one}
 use native.Mathlib.Omega.{arith}
 use mathlib.Core.List.{List, [], ◌∷◌, ◌++◌, append_assoc, append-nil}
 use lib.ListN.{length, take, drop, get_or, set, length-append}
-use lib.Seq.{sets, length-sets, sets-eq, take-suc}
+use lib.Seq.{take_all, sets, length-sets, sets-eq, take-suc}
 use borrow.Author.Tests.{le-leb, lt-leb}
 use Rattle.bigendian.specs.Bytes.{put, put_in, flat, put_first}
 
@@ -64,49 +64,42 @@ module _ {A : Type 0} (f : A → List ℕ) where
   flat_more : (l : List A) (i : ℕ) (d : A) → i < length l → flat f (take (i + 1) l) ≡ flat f (take i l) ++ f (get_or l i d)
   flat_more l i d h = rw (add-one i, take-suc l i d h, flat_append (take i l) (get_or l i d ∷ []), flat_one (get_or l i d))
 
--- where a loop stands that puts the elements xs, each w bytes long, into the buffer l from the place at on: i of them are put, the buffer
--- is out, and the next goes to the place to
-pub record Wrote {A : Type 0} (f : A → List ℕ) (w : ℕ) (l : List ℕ) (at : ℕ) (xs : List A) (out : List ℕ) (i to : ℕ) : Type 0 where
-  pub next : to ≡ at + w * i
+-- each turn of a loop over n values, each w bytes long, has room within theirs
+pub turn_room : (w : ℕ) {i n : ℕ} → i < n → w * i + w ≤ w * n
+turn_room w {i} {n} h = omega (arith, mul-suc w i, mul-le-mul_left w h)
+
+-- where a loop stands that puts the elements xs, each w bytes long, into the buffer l from the place at on: i of them are put, and the
+-- buffer is out
+pub record Wrote {A : Type 0} (f : A → List ℕ) (w : ℕ) (l : List ℕ) (at : ℕ) (xs : List A) (out : List ℕ) (i : ℕ) : Type 0 where
   pub wrote : out ≡ put l at (flat f (take i xs))
   pub wide : length (flat f (take i xs)) ≡ w * i
-  pub long : length out ≡ length l
 
 module _ {A : Type 0} (f : A → List ℕ) (w : ℕ) (l : List ℕ) (at : ℕ) (xs : List A) where
-  pub wrote_none : Wrote f w l at xs l 0 at
+  pub wrote_none : Wrote f w l at xs l 0
   unfolding flat
-  wrote_none =
-      record {
-        next = rw (mul-zero w) (sym (add-zero at));
-        wrote = sym (put_nil l at);
-        wide = sym (mul-zero w);
-        long = refl;
-      }
+  wrote_none = record { wrote = sym (put_nil l at); wide = sym (mul-zero w) }
 
-  pub wrote_more : (i : ℕ) (d : A) {out out' : List ℕ} {to to' : ℕ} → i < length xs → Wrote f w l at xs out i to
-      → length (f (get_or xs i d)) ≡ w → out' ≡ put out to (f (get_or xs i d)) → to' ≡ to + w → Wrote f w l at xs out' (i + 1) to'
-  wrote_more i d {out} {out'} {to} {to'} h p k r t =
-      let m = flat_more f xs i d h in
-      let e : w * (i + 1) ≡ w * i + w = rw (add-one i, mul-suc w i) in
+  pub wrote_more : (i : ℕ) (x : A) {out out' : List ℕ} → i < length xs → x ≡ get_or xs i x → Wrote f w l at xs out i → length (f x) ≡ w
+      → out' ≡ put_in w out (at + w * i) (f x) → at + w * i + w ≤ length l → Wrote f w l at xs out' (i + 1)
+  wrote_more i x {out} {out'} h e p k r room =
+      let m : flat f (take (i + 1) xs) ≡ flat f (take i xs) ++ f x = flat_more f xs i x h ∙ ap (λ (y : A). flat f (take i xs) ++ f y) (sym e) in
+      let next : at + w * i ≡ at + length (flat f (take i xs)) = ap (λ (z : ℕ). at + z) (sym p.wide) in
       record {
-        next = t ∙ rw e (omega (arith, p.next));
-        wrote =
-            rw m
-            (then_put l at (flat f (take i xs)) (f (get_or xs i d)) p.wrote (p.next ∙ ap (λ (z : ℕ). at + z) (sym p.wide)) r);
-        wide = ap length m ∙ length-append (flat f (take i xs)) (f (get_or xs i d)) ∙ rw (p.wide, k, e);
-        long = ap length r ∙ length-put out to (f (get_or xs i d)) ∙ p.long;
+        wrote = rw m (then_there l at (flat f (take i xs)) (f x) w p.wrote next r room);
+        wide = ap length m ∙ length-append (flat f (take i xs)) (f x) ∙ rw (p.wide, k, add-one i, mul-suc w i) refl;
       }
-
-  -- the loop's end: all of the first n are put
-  pub wrote_all : (n : ℕ) {out : List ℕ} {i to : ℕ} → i ≡ n → Wrote f w l at xs out i to
-      → (to ≡ at + w * n) × (out ≡ put l at (flat f (take n xs))) × (length (flat f (take n xs)) ≡ w * n)
-  wrote_all n e p = rw (← e) (p.next, p.wrote, p.wide)
 
 -- the first of so many places put, or nothing
 module _ {A : Type 0} (f : A → List ℕ) (w k : ℕ) (xs : List A) (n : ℕ) (l : List ℕ) (at : ℕ) where
   pub first-put : n ≤ k → w * n ≤ length l - at → put_first f w k xs n l at ≡ put l at (flat f (take n xs))
   unfolding put_first
   first-put h room = rw (le-leb n k h, le-leb (w * n) (length l - at) room)
+
+  -- every place is put
+  pub whole-put : length xs ≡ n → n ≤ k → w * n ≤ length l - at → put_first f w k xs n l at ≡ put l at (flat f xs)
+  whole-put e h room =
+      let all : take n xs ≡ xs = take_all n xs (omega arith) in
+      first-put h room ∙ rw all
 
   pub first_above : k < n → put_first f w k xs n l at ≡ l
   unfolding put_first

@@ -1,6 +1,6 @@
 -- Bytes: a number written with its highest byte first and read back, over the width; a list's elements one after the other; a buffer with
 -- other bytes from a place on.
-use Rattle.std.specs.Prelude.{ℕ, zero, suc, ◌+◌, ◌*◌, ◌-◌, ◌/◌, ◌%◌, ◌<◌, cond, ◌&&◌, List, [], ◌∷◌, ◌++◌, length, take, get_or, replicate, leb}
+use Rattle.std.specs.Prelude.{ℕ, zero, suc, ◌+◌, ◌*◌, ◌-◌, ◌/◌, ◌%◌, ◌<◌, cond, ◌&&◌, List, [], ◌∷◌, ◌++◌, length, take, drop, get_or, leb}
 use Rattle.std.proofs.lemmas.List.Edits.{sets}
 
 -- a buffer with the bytes vs from place i on
@@ -69,6 +69,7 @@ many g w (suc n) l at = g l at ∷ many g w n l (at + w)
 unfoldable pub put_first : {A : Type 0} → (A → List ℕ) → ℕ → ℕ → List A → ℕ → List ℕ → ℕ → List ℕ
 put_first f w k xs n l at = cond (leb n k && leb (w * n) (length l - at)) (put l at (flat f (take n xs))) l
 
--- n values read one after the other into k places, z behind them; z alone where n is above k or they are not all there
-unfoldable pub places_in : {A : Type 0} → (List ℕ → ℕ → A) → ℕ → ℕ → A → ℕ → List ℕ → ℕ → List A
-places_in g w k z n l at = cond (leb n k && leb (w * n) (length l - at)) (many g w n l at ++ replicate (k - n) z) (replicate k z)
+-- the first n of a list's places with values read one after the other, each w bytes long; as they were where n is above them or the values
+-- are not all there
+unfoldable pub get_first : {A : Type 0} → (List ℕ → ℕ → A) → ℕ → List A → ℕ → List ℕ → ℕ → List A
+get_first g w xs n l at = cond (leb n (length xs) && leb (w * n) (length l - at)) (many g w n l at ++ drop n xs) xs

@@ -2,21 +2,8 @@
 // number, a list and a buffer are, and the laws of bytes put and read, stand in specs/ and proofs/.
 #![tactic(auto)]
 
-ghost use Rattle.std.specs.Prelude.{◌≡◌, ◌-◌, ◌<◌, length};
+ghost use Rattle.std.specs.Prelude.{◌≡◌, length};
 ghost use Rattle.bigendian.specs.Bytes.{put_in, byte, big, number_at, number_in, read_in};
-
-pub fn wide(x: u8) -> u32
-    ensures { (result ≡ x) × (result < 256) }
-{
-    x as u32
-}
-
-// How many of so many places there are from a place on.
-pub fn left(length: usize, at: usize) -> usize
-    ensures { result ≡ length - at }
-{
-    length.saturating_sub(at)
-}
 
 // Bytes from a place on; nothing where they have no room.
 fn put_bytes(out: &mut [u8], at: usize, bytes: &[u8])

@@ -1,6 +1,8 @@
 -- Reading and writing a stored image: the order of the refusals, and what each call leaves.
-use Rattle.std.specs.Prelude.{ℕ, not, cond, List, [], ◌∷◌, ◌++◌, length, drop, ltb, eqb}
+use Rattle.std.specs.Prelude.{ℕ, not, cond, Result, Ok, Err, List, [], ◌∷◌, ◌++◌, length, drop, ltb, eqb}
 use Rattle.purse.specs.Tests.{Test, ◌⇒◌, first}
+use Rattle.purse.specs.declared.refusal.Refusal.{Refusal}
+use Rattle.purse.specs.Refusals.{number_of}
 use Rattle.desk.specs.declared.Held.{Held}
 use Rattle.desk.specs.declared.Answered.{Answered}
 use Rattle.rules.specs.Laid.{held_ok}
@@ -32,6 +34,11 @@ unfoldable pub held_write : Held → List ℕ → Written
 held_write h out =
     cond (eqb (write_number h out) 0) (record { answer = 0; length = length (image_of h) })
     (record { answer = write_number h out; length = 0 })
+
+-- the length of an image that was written, or why none was, as the call answers it
+abbrev pub written_of : Result ℕ Refusal → Written
+written_of (Ok length) = record { answer = 0; length = length }
+written_of (Err why) = record { answer = number_of why; length = 0 }
 
 -- the buffer after: "Output past the image is untouched"
 unfoldable pub held_buffer : Held → List ℕ → List ℕ

@@ -10,8 +10,8 @@ use crate::states::STATE_WIDTH;
 use bigendian::{number_at, put_byte, put_count, put_number};
 use desk::Held;
 use layout::widths::{BYTE_WIDTH, DETAILS_WIDTH, MESSAGE_WIDTH, NUMBER_WIDTH, PURSE_WIDTH};
-use parts::{get_message, get_purse, put_details, put_message, put_purse};
-use purse::{Amount, CardEvent, Name, Seq};
+use parts::Part;
+use purse::{Amount, CardEvent, Message, Name, Purse, Seq};
 use std::io;
 use std::io::{ErrorKind, Read};
 
@@ -147,7 +147,7 @@ fn told(bytes: &[u8; CARD_WIDTH]) -> Option<CardEvent> {
     match bytes[KIND] {
         1 => Some(CardEvent::StartFrom { other, seq, amount }),
         2 => Some(CardEvent::StartTo { other, seq, amount }),
-        3 => Some(CardEvent::Deliver(get_message(bytes, MESSAGE))),
+        3 => Some(CardEvent::Deliver(Message::get(bytes, MESSAGE))),
         4 => Some(CardEvent::Abort),
         6 => Some(CardEvent::Collect),
         8 => Some(CardEvent::Load(amount)),
@@ -159,12 +159,12 @@ fn told(bytes: &[u8; CARD_WIDTH]) -> Option<CardEvent> {
 fn card_step(rt: &HostRuntime) -> Result<(), End> {
     let bytes: [u8; CARD_WIDTH] = next(rt)?;
     let event = told(&bytes).ok_or(End::NoRequest)?;
-    let answered = card::step(get_purse(&bytes, RECORD), Name(bytes[0]), event);
+    let answered = card::step(Purse::get(&bytes, RECORD), Name(bytes[0]), event);
     let mut out = [0; REPLY_WIDTH];
     put_byte(&mut out, 0, answered.answer);
-    put_purse(&mut out, RECORD, answered.purse);
-    put_message(&mut out, SENT, answered.message);
-    put_details(&mut out, HANDED, answered.entry);
+    answered.purse.put(&mut out, RECORD);
+    answered.message.put(&mut out, SENT);
+    answered.entry.put(&mut out, HANDED);
     rt.write_all(&out)?;
     Ok(())
 }

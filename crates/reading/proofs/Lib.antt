@@ -1,2 +1,2 @@
-pub mod Calls
+pub mod Refused
 pub mod Unique

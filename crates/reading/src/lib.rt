@@ -1,44 +1,78 @@
 // A stored image read: the bench that bytes give. What an image is, and which refusal comes first, stands in the crate layout.
 #![tactic(auto)]
 
-mod lists; // lists.rt: purses, messages and archive entries one after the other
-
-ghost use Rattle.std.specs.Prelude.{◌≡◌};
+ghost use Rattle.std.specs.Prelude.{◌≡◌, ◌≤◌, ◌&&◌, leb, length};
 ghost use Rattle.purse.specs.Tests.{first};
-ghost use Rattle.layout.specs.Head.{head_tests};
+ghost use Rattle.purse.specs.Refusals.{answer_of};
+ghost use Rattle.layout.specs.Widths.{head_width};
+ghost use Rattle.layout.specs.Head.{marked, purses_in, messages_in, entries_in, head_tests};
 ghost use Rattle.layout.specs.Image.{bench_in};
 ghost use Rattle.layout.specs.Calls.{held_read};
 
 use bigendian::count_at;
-use desk::{Answered, Archive, Desk, Ether, Held};
+use desk::{Answered, Archive, Desk, Entry, Ether, Held};
 use layout::widths::{
     ENTRIES_PLACE, HEAD_WIDTH, MESSAGE_WIDTH, MESSAGES_PLACE, PURSE_WIDTH, PURSES_PLACE,
     VERSION_PLACE,
 };
 use layout::{VERSION, image_length};
-pub use lists::{get_entries, get_messages, get_purses};
-use purse::tested;
+use parts::get_all;
+use purse::{Message, Purse, Refusal, refuse_if};
 use table::held_ok;
 
-// The number of the first test of the head that applies, or 0.
-fn head_number(s: &[u8]) -> u8
-    ensures { result ≡ first (head_tests s.now) }
-{
-    let length = s.len();
-    if length < HEAD_WIDTH {
-        return 16;
+// How many purses, messages and archive entries an image says that it has.
+#[derive(Clone, Copy)]
+struct Counts {
+    purses: u8,
+    messages: u16,
+    entries: u16,
+}
+
+impl Counts {
+    // 1 to 32 purses, at most 256 messages and 256 archive entries.
+    fn are_legal(self) -> bool
+        ensures { result ≡ (leb 1 self.purses && leb self.purses 32 && leb self.messages 256 && leb self.entries 256) }
+    {
+        1 <= self.purses && self.purses <= 32 && self.messages <= 256 && self.entries <= 256
     }
-    let mark = (s[0] == 0x50) & (s[1] == 0x52) & (s[2] == 0x53);
-    let version = count_at(s, VERSION_PLACE);
-    let purses = s[PURSES_PLACE];
-    let messages = count_at(s, MESSAGES_PLACE);
-    let entries = count_at(s, ENTRIES_PLACE);
-    let counts = (1 <= purses) & (purses <= 32) & (messages <= 256) & (entries <= 256);
-    let whole = image_length(purses, messages, entries);
-    let n = tested(0, !mark, 17);
-    let n = tested(n, !(version == VERSION), 18);
-    let n = tested(n, !counts, 2);
-    tested(n, !(length == whole), 16)
+}
+
+#[tactic(auto, using(bigendian::proofs::Numbers::count_there))]
+fn said_counts(s: &[u8]) -> Counts
+    requires { head_width ≤ length s.now }
+    ensures purses { result.purses ≡ purses_in s.now }
+    ensures messages { result.messages ≡ messages_in s.now }
+    ensures entries { result.entries ≡ entries_in s.now }
+{
+    Counts {
+        purses: s[PURSES_PLACE],
+        messages: count_at(s, MESSAGES_PLACE),
+        entries: count_at(s, ENTRIES_PLACE),
+    }
+}
+
+// Mark 50 52 53 ("PRS").
+fn is_marked(s: &[u8]) -> bool
+    requires { head_width ≤ length s.now }
+    ensures { result ≡ marked s.now }
+{
+    s[0] == 0x50 && s[1] == 0x52 && s[2] == 0x53
+}
+
+// The head's tests, in the documents' order.
+#[tactic(auto, using(bigendian::proofs::Numbers::count_there))]
+fn check_head(s: &[u8]) -> Result<(), Refusal>
+    ensures { answer_of result ≡ first (head_tests s.now) }
+{
+    refuse_if(s.len() < HEAD_WIDTH, Refusal::BadLength)?;
+    refuse_if(!is_marked(s), Refusal::WrongMark)?;
+    refuse_if(count_at(s, VERSION_PLACE) != VERSION, Refusal::WrongVersion)?;
+    let n = said_counts(s);
+    refuse_if(!n.are_legal(), Refusal::NotWellFormed)?;
+    refuse_if(
+        s.len() != image_length(n.purses, n.messages, n.entries),
+        Refusal::BadLength,
+    )
 }
 
 // The bench of an image whose head is right.
@@ -48,55 +82,58 @@ fn get_bench(s: &[u8]) -> Held
     requires { first (head_tests s.now) ≡ 0 }
     ensures { result ≡ bench_in s.now }
 {
-    let purses = s[PURSES_PLACE];
-    let messages = count_at(s, MESSAGES_PLACE);
-    let entries = count_at(s, ENTRIES_PLACE);
-    let b = HEAD_WIDTH + PURSE_WIDTH * (purses as usize);
-    let c = b + MESSAGE_WIDTH * (messages as usize);
-    let table = get_purses(s, HEAD_WIDTH, purses);
-    let sent = get_messages(s, b, messages);
-    let archived = get_entries(s, c, entries);
-    let ether = Ether {
-        places: sent,
-        count: messages,
-    };
-    let archive = Archive {
-        places: archived,
-        count: entries,
-    };
-    let desk = Desk {
-        purses: purses,
-        ether: ether,
-        archive: archive,
-    };
+    let Counts {
+        purses,
+        messages,
+        entries,
+    } = said_counts(s);
+    let messages_from = HEAD_WIDTH + PURSE_WIDTH * usize::from(purses);
+    let entries_from = messages_from + MESSAGE_WIDTH * usize::from(messages);
+    let mut table = [Purse::default(); 32];
+    get_all(s, HEAD_WIDTH, u16::from(purses), &mut table);
+    let mut sent = [Message::default(); 256];
+    get_all(s, messages_from, messages, &mut sent);
+    let mut archived = [Entry::default(); 256];
+    get_all(s, entries_from, entries, &mut archived);
     Held {
-        table: table,
-        desk: desk,
+        table,
+        desk: Desk {
+            purses,
+            ether: Ether {
+                places: sent,
+                count: messages,
+            },
+            archive: Archive {
+                places: archived,
+                count: entries,
+            },
+        },
     }
 }
 
 // The bench of an image, whatever was held before; a refusal leaves that.
+#[tactic(auto, using(layout::proofs::Trips::read_number_lem), unfolding(layout::specs::Calls::held_read))]
 pub fn read(held: Held, bytes: &[u8]) -> Answered
     ensures { result ≡ held_read held bytes.now }
 {
-    let number = head_number(bytes);
-    if number == 0 {
-        let found = get_bench(bytes);
-        if held_ok(found) {
-            Answered {
-                answer: 0,
-                held: found,
-            }
-        } else {
-            Answered {
-                answer: 2,
-                held: held,
+    match check_head(bytes) {
+        Ok(()) => {
+            let found = get_bench(bytes);
+            if held_ok(found) {
+                Answered {
+                    answer: 0,
+                    held: found,
+                }
+            } else {
+                Answered {
+                    answer: u8::from(Refusal::NotWellFormed),
+                    held,
+                }
             }
         }
-    } else {
-        Answered {
-            answer: number,
-            held: held,
-        }
+        Err(why) => Answered {
+            answer: u8::from(why),
+            held,
+        },
     }
 }

@@ -8,7 +8,7 @@ ghost use Rattle.std.specs.Prelude.{◌≡◌};
 ghost use Rattle.layout.specs.Calls.{held_buffer};
 ghost use Rattle.trips.specs.Trips.{written_read, read_written, read_buffer};
 
-use crate::fits::{bytes_fit, held_fits};
+use crate::fits::held_fits;
 use desk::{Answered, Held};
 use layout::Written;
 use reading::read;
@@ -18,15 +18,13 @@ use writing::write;
 pub fn written_then_read(held: Held, other: Held, out: &mut [u8]) -> Answered
     ensures { (result ≡ written_read held other out.old) × (out.new ≡ held_buffer held out.old) }
 {
-    held_fits(held);
+    held_fits(&held);
     let w = write(held, out);
-    let answer = w.answer;
-    let n = w.length;
-    if answer == 0 {
-        read(other, &out[..n])
+    if w.answer == 0 {
+        read(other, &out[..w.length])
     } else {
         Answered {
-            answer: answer,
+            answer: w.answer,
             held: other,
         }
     }
@@ -36,15 +34,12 @@ pub fn written_then_read(held: Held, other: Held, out: &mut [u8]) -> Answered
 pub fn read_then_written(other: Held, bytes: &[u8], out: &mut [u8]) -> Written
     ensures { (result ≡ read_written other bytes.now out.old) × (out.new ≡ read_buffer other bytes.now out.old) }
 {
-    bytes_fit(bytes);
     let a = read(other, bytes);
-    let answer = a.answer;
-    let found = a.held;
-    if answer == 0 {
-        write(found, out)
+    if a.answer == 0 {
+        write(a.held, out)
     } else {
         Written {
-            answer: answer,
+            answer: a.answer,
             length: 0,
         }
     }

@@ -6,9 +6,9 @@ use Rattle.trips.proofs.fits.held_fits.Goals as goal
 
 pub returns : goal.returns
 returns c =
-    let h = c.args.held in
+    let h = c.args.held.now in
     record {
-      purses = all_first FitPurse h.desk.purses h.table c.table_fits.ensures;
-      messages = all_first FitMessage h.desk.ether.count h.desk.ether.places c.messages_fit.ensures;
-      archive = all_first FitEntry h.desk.archive.count h.desk.archive.places c.entries_fit.ensures;
+      purses = all_first FitPurse h.desk.purses h.table c.all_fit.ensures;
+      messages = all_first FitMessage h.desk.ether.count h.desk.ether.places c.all_fit-2.ensures;
+      archive = all_first FitEntry h.desk.archive.count h.desk.archive.places c.all_fit-3.ensures;
     }
