@@ -3,7 +3,7 @@ ghost use Rattle.std.specs.Prelude.{◌≡◌, get_or};
 ghost use Rattle.purse.specs.Details.{zero_details};
 ghost use Rattle.purse.specs.Refusals.{number_of};
 ghost use Rattle.purse.specs.Step.{refused_by, moved_down};
-ghost use Rattle.card.specs.Act.{record_after, handed_out, answered_by};
+ghost use Rattle.card.specs.Act.{log_after, record_after, handed_out, answered_by};
 
 use purse::{CardAnswer, Details, Message, Purse, Refusal};
 use refusals::Head;
@@ -19,6 +19,17 @@ pub(crate) fn refused(purse: Purse, why: Refusal) -> CardAnswer
         message: Message::default(),
         entry: Details::default(),
     }
+}
+
+// The running details behind the entries; past the last place nothing is put.
+fn appended(p: Purse) -> [Details; 8]
+    ensures { result ≡ log_after p LogChange.Append }
+{
+    let mut log = p.log;
+    if p.logged < Purse::LOG_PLACES {
+        log[p.logged as usize] = p.details;
+    }
+    log
 }
 
 // The oldest entry out, the later ones one place down.
@@ -40,24 +51,19 @@ pub fn oldest(p: Purse) -> Details
 pub fn record(p: Purse, head: Head, change: LogChange) -> Purse
     ensures { result ≡ record_after p head change }
 {
-    let mut q = Purse {
+    let log = match change {
+        LogChange::Nothing => p.log,
+        LogChange::Append => appended(p),
+        LogChange::OldestOut => moved_down(p.log),
+    };
+    Purse {
         balance: head.balance,
         next: head.next,
         status: head.status,
         details: head.details,
+        log,
         logged: head.logged,
-        ..p
-    };
-    match change {
-        LogChange::Nothing => {}
-        LogChange::Append => {
-            if p.logged < Purse::LOG_PLACES {
-                q.log[p.logged as usize] = p.details;
-            }
-        }
-        LogChange::OldestOut => q.log = moved_down(p.log),
     }
-    q
 }
 
 // The entry that a step hands out: the oldest one where it leaves the log, or an all-zero one.
