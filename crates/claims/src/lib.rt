@@ -2,7 +2,7 @@
 // one over the archive; a pair is counted once, at its payer's entry.
 #![tactic(auto)]
 
-ghost use Rattle.std.specs.Prelude.{◌≡◌, true, map, ◌≤◌, get_or};
+ghost use Rattle.std.specs.Prelude.{◌≡◌, true, map, ◌≤◌, get_or, length};
 ghost use Rattle.purse.specs.Lists.{every, total};
 ghost use Rattle.purse.specs.Purse.{zero_purse};
 ghost use Rattle.rules.specs.Laid.{held_claims};
@@ -26,26 +26,40 @@ fn keys_of(places: &[Entry; 256]) -> [u32; 256]
     keys
 }
 
-// Whether the payee of details has logged them too, in its log or in the archive; these are the archive's keys.
-fn has_logged(d: Details, table: &[Purse; 32], archive: &Archive, keys: &[u32; 256]) -> bool
-    requires { (archive.now.count ≤ 256) × (keys.now ≡ map entry_key archive.now.places) }
-    ensures { result ≡ payee_logged (record_of table.now d.payee) archive.now d }
+// Where an entry's partner is looked for: the records, and the archive beside the key of each of its places.
+#[derive(Clone, Copy)]
+struct Books<'a> {
+    table: &'a [Purse; 32],
+    archive: &'a Archive,
+    keys: &'a [u32; 256],
+    ghost long: { length table.now ≡ 32 },
+    ghost few: { archive.now.count ≤ 256 },
+    ghost keyed: { keys.now ≡ map entry_key archive.now.places },
+}
+
+// Whether the payee of details has logged them too, in its log or in the archive.
+fn has_logged(d: Details, books: Books) -> bool
+    ensures { result ≡ payee_logged (record_of books.entry.table.now d.payee) books.entry.archive.now d }
 {
+    let table = books.table;
+    let archive = books.archive;
+    let keys = books.keys;
     let payee = place(d.payee);
     let many = archive.count as usize;
-    let by = d.payee;
-    let partner = Entry { by: by, details: d };
+    let partner = Entry {
+        by: d.payee,
+        details: d,
+    };
     in_log(&table[payee], d) || is_among(&partner, &archive.places[..many], &keys[..many])
 }
 
 // What an entry adds: its amount, where the purse that logged it is its payer, and its payee has logged it too.
 #[tactic(auto, unfolding(crate::specs::Claims::claim_beside))]
-fn claim_of(e: Entry, table: &[Purse; 32], archive: &Archive, keys: &[u32; 256]) -> u32
-    requires { (archive.now.count ≤ 256) × (keys.now ≡ map entry_key archive.now.places) }
-    ensures { result ≡ entry_claim table.now archive.now e }
+fn claim_of(e: Entry, books: Books) -> u32
+    ensures { result ≡ entry_claim books.entry.table.now books.entry.archive.now e }
 {
     let d = e.details;
-    if (e.by == d.payer) && has_logged(d, table, archive, keys) {
+    if (e.by == d.payer) && has_logged(d, books) {
         d.amount.0
     } else {
         0
@@ -53,23 +67,24 @@ fn claim_of(e: Entry, table: &[Purse; 32], archive: &Archive, keys: &[u32; 256])
 }
 
 // What the archive's entries add.
-fn sum_of_archive(table: &[Purse; 32], archive: &Archive, keys: &[u32; 256]) -> u64
-    requires { (archive.now.count ≤ 256) × (keys.now ≡ map entry_key archive.now.places) }
-    ensures { result ≡ total (entry_claim table.now archive.now) (collected archive.now) }
+fn sum_of_archive(books: Books) -> u64
+    ensures { result ≡ total (entry_claim books.entry.table.now books.entry.archive.now) (collected books.entry.archive.now) }
 {
+    let archive = books.archive;
     let many = archive.count as usize;
     let mut sum: u64 = 0;
     for e in &archive.places[..many] {
-        sum += claim_of(*e, table, archive, keys) as u64;
+        sum += claim_of(*e, books) as u64;
     }
     sum
 }
 
 // What the entries of the logs of that many purses add.
-fn sum_of_logs(purses: u8, table: &[Purse; 32], archive: &Archive, keys: &[u32; 256]) -> u64
-    requires { (archive.now.count ≤ 256) × (keys.now ≡ map entry_key archive.now.places) × (purses ≤ 32) × (every purses (λ p. log_fits (get_or table.now p zero_purse)) ≡ true) }
-    ensures { result ≡ total (entry_claim table.now archive.now) (log_entries purses table.now) }
+fn sum_of_logs(purses: u8, books: Books) -> u64
+    requires { (purses ≤ 32) × (every purses (λ p. log_fits (get_or books.table.now p zero_purse)) ≡ true) }
+    ensures { result ≡ total (entry_claim books.entry.table.now books.entry.archive.now) (log_entries purses books.entry.table.now) }
 {
+    let table = books.table;
     let mut sum: u64 = 0;
     for own in 0..purses {
         let p = &table[own as usize];
@@ -79,7 +94,7 @@ fn sum_of_logs(purses: u8, table: &[Purse; 32], archive: &Archive, keys: &[u32; 
                 by: Name(own),
                 details: p.log[i],
             };
-            sum += claim_of(e, table, archive, keys) as u64;
+            sum += claim_of(e, books) as u64;
         }
     }
     sum
@@ -89,11 +104,15 @@ pub fn claims(held: Held) -> Figure
     ensures { result ≡ held_claims held }
 {
     if table::held_ok(held) {
-        let table = &held.table;
         let archive = &held.desk.archive;
         let keys = keys_of(&archive.places);
-        let cards = sum_of_logs(held.desk.purses, table, archive, &keys);
-        let rest = sum_of_archive(table, archive, &keys);
+        let books = Books {
+            table: &held.table,
+            archive: archive,
+            keys: &keys,
+        };
+        let cards = sum_of_logs(held.desk.purses, books);
+        let rest = sum_of_archive(books);
         Figure {
             answer: 0,
             claims: (cards + rest) as u32,

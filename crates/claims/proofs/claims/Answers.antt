@@ -25,15 +25,14 @@ both c = omega (arith, c.sum_of_logs-cards.ensures, c.sum_of_archive-rest.ensure
 most : (c : After-sum_of_archive-rest) → c.sum_of_logs-cards.result + c.sum_of_archive-rest.result ≤ 1280000000
 most c = omega (arith, both c, claims_most (seen c.args.held) (seen_ok c.args.held (sym c.held_ok.ensures ∙ c.if-held_ok.true)))
 
+pub invariant_of-books-clause-few : goal.invariant_of-books-clause-few
+invariant_of-books-clause-few c = few_entries c.args.held (obeys (goal.at.invariant_of-books-clause-few c).Then-held_ok)
+
 pub sum_of_logs-cards-requires : goal.sum_of_logs-cards-requires
 sum_of_logs-cards-requires c =
     let h = c.args.held in
     let ok = obeys (goal.at.sum_of_logs-cards-requires c).Then-held_ok in
-    (few_entries h ok, c.keys_of-keys.ensures, few_purses h ok, logs_fit h ok)
-
-pub sum_of_archive-rest-requires : goal.sum_of_archive-rest-requires
-sum_of_archive-rest-requires c =
-    (few_entries c.args.held (obeys (goal.at.sum_of_archive-rest-requires c).Then-held_ok), c.keys_of-keys.ensures)
+    (few_purses h ok, logs_fit h ok)
 
 pub overflow_add-result : goal.overflow_add-result
 overflow_add-result c =

@@ -15,8 +15,8 @@ pub returns-then-in_log : goal.returns-then-in_log
 unfolding payee_logged
 returns-then-in_log c =
     let d = c.args.d in
-    let l = c.args.table.now in
-    let here = looked_up l d.payee c.place-payee.result _ c.told-table c.place-payee.ensures in
+    let l = c.args.books.table.now in
+    let here = looked_up l d.payee c.place-payee.result _ c.args.books.long c.place-payee.ensures in
     let on_card : among same_details d (kept (record_of l d.payee)) ≡ true =
     ap (λ (p : Purse). among same_details d (kept p)) (sym here) ∙ (sym c.in_log.ensures ∙ c.if-in_log.true) in
     c.if-in_log.true ∙ sym (rw on_card)
@@ -25,8 +25,8 @@ pub returns-else-in_log : goal.returns-else-in_log
 unfolding payee_logged
 returns-else-in_log c =
     let d = c.args.d in
-    let l = c.args.table.now in
-    let here = looked_up l d.payee c.place-payee.result _ c.told-table c.place-payee.ensures in
+    let l = c.args.books.table.now in
+    let here = looked_up l d.payee c.place-payee.result _ c.args.books.long c.place-payee.ensures in
     let on_card : among same_details d (kept (record_of l d.payee)) ≡ false =
     ap (λ (p : Purse). among same_details d (kept p)) (sym here) ∙ (sym c.in_log.ensures ∙ c.if-in_log.false) in
-    archived c.args.archive.now c.args.keys.now (entry_by d.payee.0 d) c.requires.1 c.is_among.ensures ∙ sym (rw on_card)
+    archived c.args.books.archive.now c.args.books.keys.now (entry_by d.payee.0 d) c.args.books.keyed c.is_among.ensures ∙ sym (rw on_card)

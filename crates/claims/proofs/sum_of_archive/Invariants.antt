@@ -8,4 +8,4 @@ use Rattle.claims.specs.Claims.{entry_claim}
 use Rattle.claims.proofs.sum_of_archive.Given as goal
 
 abbrev pub invariant-loop-e : goal.invariant-loop-e
-invariant-loop-e l = (l.sum ≡ total (entry_claim l.table l.archive) (take l.e-index (collected l.archive))) × (l.sum ≤ 4294967295 * l.e-index)
+invariant-loop-e l = (l.sum ≡ total (entry_claim l.books.table.now l.books.archive.now) (take l.e-index (collected l.books.archive.now))) × (l.sum ≤ 4294967295 * l.e-index)

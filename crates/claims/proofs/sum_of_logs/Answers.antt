@@ -31,13 +31,13 @@ record Fits (table : List Purse) (own : ℕ) : Type 0 where
   eight : length (get_or table own none).log ≡ 8
   few : (get_or table own none).logged ≤ 8
 
-fits-at : (start : Start) (own : ℕ) → own < start.args.purses → Fits start.args.table.now own
+fits-at : (start : Start) (own : ℕ) → own < start.args.purses → Fits start.args.books.table.now own
 fits-at start own below =
-    let l = start.args.table.now in
-    let less : own < length l = omega (arith, start.told-table, start.requires.2, below) in
+    let l = start.args.books.table.now in
+    let less : own < length l = omega (arith, start.args.books.long, start.requires.0, below) in
     let p : Purse = get_or l own none in
     let ok : log_fits p ≡ true =
-    ap log_fits (at_any l own none zero_purse less) ∙ every_at (λ (p : ℕ). log_fits (get_or l p zero_purse)) start.args.purses own start.requires.3 below in
+    ap log_fits (at_any l own none zero_purse less) ∙ every_at (λ (p : ℕ). log_fits (get_or l p zero_purse)) start.args.purses own start.requires.1 below in
     record {
       inside = less;
       eight = eqb-true _ _ (and_l (eqb (length p.log) 8) (leb p.logged 8) ok);
@@ -51,16 +51,16 @@ overflow_cast-logged c =
 
 pub loop-i-init : goal.loop-i-init
 loop-i-init c =
-    let so_far = append-nil (log_entries c.loop-own.own c.args.table.now) in (
+    let so_far = append-nil (log_entries c.loop-own.own c.args.books.table.now) in (
       (fits-at (goal.at.loop-i-init c).Start c.loop-own.own c.loop-own-test.true).few,
-      c.loop-own.invariant.0 ∙ ap (total (entry_claim c.args.table.now c.args.archive.now)) (sym so_far),
+      c.loop-own.invariant.0 ∙ ap (total (entry_claim c.args.books.table.now c.args.books.archive.now)) (sym so_far),
       omega (arith, c.loop-own.invariant.1),
     )
 
 pub loop-i-preserved : goal.loop-i-preserved
 loop-i-preserved c =
-    let l = c.args.table.now in
-    let w : Entry → ℕ = entry_claim l c.args.archive.now in
+    let l = c.args.books.table.now in
+    let w : Entry → ℕ = entry_claim l c.args.books.archive.now in
     let own = c.loop-own.own in
     let log = (get_or l own none).log in
     let i = c.loop-i.i in
@@ -75,9 +75,9 @@ loop-i-preserved c =
 
 pub loop-own-preserved : goal.loop-own-preserved
 loop-own-preserved c =
-    let l = c.args.table.now in
+    let l = c.args.books.table.now in
     let own = c.loop-own.own in
     let fits = fits-at (goal.at.loop-own-preserved c).Start own c.loop-own-test.true in
     let done : c.loop-i.i ≡ (get_or l own none).logged = omega (arith, c.loop-i.auto, c.loop-i-test.false) in
     let whole : row own l (get_or l own none).log c.loop-i.i ≡ log_entries (own + 1) l = row_whole own l none c.loop-i.i fits.inside done in
-    (c.loop-i.invariant.1 ∙ ap (total (entry_claim l c.args.archive.now)) whole, omega (arith, c.loop-i.invariant.2, fits.few, done))
+    (c.loop-i.invariant.1 ∙ ap (total (entry_claim l c.args.books.archive.now)) whole, omega (arith, c.loop-i.invariant.2, fits.few, done))

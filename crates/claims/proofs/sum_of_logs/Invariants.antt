@@ -8,8 +8,8 @@ use Rattle.claims.proofs.sum_of_logs.Given as goal
 
 abbrev pub invariant-loop-i : goal.invariant-loop-i
 invariant-loop-i l =
-    (l.logged ≤ 8) × (l.sum ≡ total (entry_claim l.table l.archive) (row l.own l.table l.p.log l.i)) × (l.sum ≤ 4294967295 * (8 * l.own + l.i))
+    (l.logged ≤ 8) × (l.sum ≡ total (entry_claim l.books.table.now l.books.archive.now) (row l.own l.books.table.now l.p.log l.i)) × (l.sum ≤ 4294967295 * (8 * l.own + l.i))
 
 abbrev pub invariant-loop-own : goal.invariant-loop-own
 invariant-loop-own l =
-    (l.sum ≡ total (entry_claim l.table l.archive) (log_entries l.own l.table)) × (l.sum ≤ 4294967295 * (8 * l.own))
+    (l.sum ≡ total (entry_claim l.books.table.now l.books.archive.now) (log_entries l.own l.books.table.now)) × (l.sum ≤ 4294967295 * (8 * l.own))
