@@ -13,7 +13,7 @@ use desk::Desk;
 use purse::Purse;
 
 // What is seen of an event at the desk: one message is read, at the place that it delivers.
-#[tactic(auto, using(crate::proofs::Written::below))]
+#[tactic(auto, using(crate::proofs::Written::below, crate::proofs::Written::seen_is))]
 pub fn seen_at(desk: &Desk, event: &[u8]) -> Seen
     ensures { result ≡ seen_at desk.now (decoded event.now) }
 {
