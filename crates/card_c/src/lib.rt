@@ -7,7 +7,7 @@ ghost use Rattle.purse.specs.Card.{step_by};
 ghost use Rattle.card_c.specs.Order.{told_of, handed_of};
 
 use card::step;
-use purse::{Amount, CardAnswer, CardEvent, Details, Message, Name, Purse, Seq};
+use purse::{Amount, CardEvent, Details, Message, Name, Purse, Seq};
 
 // What a card is told, as a foreign caller writes it: kind 1 start-from, 2 start-to, 4 abort, 6 collect, 8 load, every other number
 // a message.
@@ -30,37 +30,26 @@ pub struct Handed {
     pub entry: Details,
 }
 
-fn told(order: Order) -> CardEvent
-    ensures { result ≡ told_of order }
-{
-    let kind = order.kind;
-    let other = order.other;
-    let seq = order.seq;
-    let amount = order.amount;
-    let message = order.message;
-    match kind {
-        1 => CardEvent::StartFrom {
-            other: other,
-            seq: seq,
-            amount: amount,
-        },
-        2 => CardEvent::StartTo {
-            other: other,
-            seq: seq,
-            amount: amount,
-        },
-        4 => CardEvent::Abort,
-        6 => CardEvent::Collect,
-        8 => CardEvent::Load(amount),
-        0 | 3 | 5 | 7 | 9..=255 => CardEvent::Deliver(message),
-    }
-}
+impl From<Order> for CardEvent {
+    ghost from_gives = { λ order event. event ≡ told_of order };
 
-// A turn of the card, by value.
-fn turn(purse: Purse, own: Name, order: Order) -> CardAnswer
-    ensures { result ≡ step_by purse own (told_of order) }
-{
-    step(purse, own, told(order))
+    #[tactic(auto, unfolding(crate::specs::Order::told_of))]
+    fn from(order: Order) -> CardEvent {
+        let Order {
+            other,
+            seq,
+            amount,
+            ..
+        } = order;
+        match order.kind {
+            1 => CardEvent::StartFrom { other, seq, amount },
+            2 => CardEvent::StartTo { other, seq, amount },
+            4 => CardEvent::Abort,
+            6 => CardEvent::Collect,
+            8 => CardEvent::Load(amount),
+            _ => CardEvent::Deliver(order.message),
+        }
+    }
 }
 
 // The card's entry: the record is copied out, stepped by value and stored back where it stands.
@@ -68,13 +57,11 @@ fn turn(purse: Purse, own: Name, order: Order) -> CardAnswer
 pub extern "C" fn prs_card(purse: &mut Purse, own: Name, order: Order) -> Handed
     ensures { (result ≡ handed_of (step_by purse.old own (told_of order))) × (purse.new ≡ (step_by purse.old own (told_of order)).purse) }
 {
-    let turned = turn(*purse, own, order);
+    let turned = step(*purse, own, order.into());
     *purse = turned.purse;
-    let message = turned.message;
-    let entry = turned.entry;
     Handed {
         answer: turned.answer,
-        message: message,
-        entry: entry,
+        message: turned.message,
+        entry: turned.entry,
     }
 }

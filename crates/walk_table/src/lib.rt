@@ -10,17 +10,14 @@ use desk::{Desk, Held};
 use purse::Purse;
 use table::held_ok;
 
-// A lent table and a lent desk, copied out. For another length than 32 the table is one of unused records, which breaks the rules.
+// The records of a lent table of 32. For another length a table of unused records, which breaks the rules.
 #[tactic(auto, unfolding(crate::specs::Lent::copied_of))]
-pub fn held(table: &[Purse], desk: &Desk) -> Held
-    ensures { result ≡ held (copied_of table.now) desk.now }
+pub fn copied(table: &[Purse]) -> [Purse; 32]
+    ensures { result ≡ copied_of table.now }
 {
-    let mut all = Held {
-        table: [Purse::default(); 32],
-        desk: *desk,
-    };
+    let mut all = [Purse::default(); 32];
     if table.len() == 32 {
-        all.table.copy_from_slice(table);
+        all.copy_from_slice(table);
     }
     all
 }
@@ -30,5 +27,8 @@ pub fn held(table: &[Purse], desk: &Desk) -> Held
 pub fn table_ok(table: &[Purse], desk: &Desk) -> bool
     ensures { result ≡ held_ok (held table.now desk.now) }
 {
-    held_ok(held(table, desk))
+    held_ok(Held {
+        table: copied(table),
+        desk: *desk,
+    })
 }

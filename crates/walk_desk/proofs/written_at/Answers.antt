@@ -1,39 +1,13 @@
 -- `walk_desk::written_at` meets its contract: the places written are two of the 256, and the desk is left as the definition says.
 -- Assumes nothing.
-use Prim.Native.Nat.{◌<◌}
 use mathlib.Core.Path.{◌≡◌}
 use lib.ListN.{length}
-use native.Mathlib.Omega.{arith}
 use borrow.Author.Rules.{rules}
 use Rattle.rules.specs.Events.{decoded}
 use Rattle.purse.proofs.Lists.{unmapped}
 use Rattle.deeds.specs.Deeds.{deed_at}
-use Rattle.walk_desk.proofs.Written.{below, deed_is, stays, loses}
+use Rattle.walk_desk.proofs.Written.{deed_is, stays, loses}
 use Rattle.walk_desk.proofs.written_at.Goals as goal
-
-pub offset_bounds-desk-end : goal.offset_bounds-desk-end
-offset_bounds-desk-end c = let l : c.behind-end.result < 256 = below _ _ c.behind-end.ensures in omega arith
-
-pub bounds-desk-end : goal.bounds-desk-end
-bounds-desk-end c = below _ _ c.behind-end.ensures
-
-pub offset_bounds-desk-stop : goal.offset_bounds-desk-stop
-offset_bounds-desk-stop c = let l : c.behind-stop.result < 256 = below _ _ c.behind-stop.ensures in omega arith
-
-pub bounds-desk-stop : goal.bounds-desk-stop
-bounds-desk-stop c = below _ _ c.behind-stop.ensures
-
-pub offset_bounds-desk-end-2 : goal.offset_bounds-desk-end-2
-offset_bounds-desk-end-2 c = let l : c.behind-end.result < 256 = below _ _ c.behind-end.ensures in omega arith
-
-pub bounds-desk-end-2 : goal.bounds-desk-end-2
-bounds-desk-end-2 c = below _ _ c.behind-end.ensures
-
-pub offset_bounds-desk-stop-2 : goal.offset_bounds-desk-stop-2
-offset_bounds-desk-stop-2 c = let l : c.behind-stop.result < 256 = below _ _ c.behind-stop.ensures in omega arith
-
-pub bounds-desk-stop-2 : goal.bounds-desk-stop-2
-bounds-desk-stop-2 c = below _ _ c.behind-stop.ensures
 
 pub returns-then-d : goal.returns-then-d
 returns-then-d c =
