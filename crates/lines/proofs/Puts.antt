@@ -60,11 +60,8 @@ module _ {A : Type 0} (line : ℕ → A → List ℕ) where
       rw (s, add-one i, take-suc xs i d h, numbered-append k (take i xs) (get_or xs i d ∷ []), e, append-nil (line (k + i) (get_or xs i d))) in
       same_bytes (sym m) (then p q)
 
--- a buffer filled from its start, and one that is too short
+-- a buffer filled from its start
 pub filled : {b : Bool} {t t' : Text} {vs l l' : List ℕ} → b ≡ true → (t.length ≡ 0) × (t.buffer.now ≡ l) → Added t vs t' → l' ≡ t'.buffer.now → Filled b vs l t'.length l'
 filled {b} {t} {t'} {vs} e n p q =
     let start : t'.length ≡ length vs = omega arith in
     rw (e, ← n.1, q) (start, rw n.0 at p.holds)
-
-pub not_filled : {b : Bool} (vs l : List ℕ) → b ≡ false → Filled b vs l 0 l
-not_filled vs l e = rw e (refl, refl)

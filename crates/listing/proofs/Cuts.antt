@@ -21,7 +21,7 @@ pub taken-all : (l bs : List ℕ) → length l ≤ 6144 → 512 ≤ length bs �
 unfolding taken
 taken-all l bs h k = let fits : length l / 12 ≤ length bs = omega arith in simp (le-leb (length l / 12) (length bs) fits)
 
-length-pieces : (n : ℕ) (l : List ℕ) → length (pieces n l) ≡ n
+pub length-pieces : (n : ℕ) (l : List ℕ) → length (pieces n l) ≡ n
 length-pieces zero l = refl
 length-pieces (suc n) l = ap suc (length-pieces n (drop 12 l))
 

@@ -6,7 +6,9 @@
 
 mod failure; // failure.rt: why a listing is not whole, told on standard error
 
-ghost use Rattle.std.specs.Prelude.{◌≤◌, length, ◌≡◌, IfOk};
+ghost use Rattle.std.specs.Prelude.{◌≤◌, ◌<◌, ◌*◌, ℕ, List, length, take, ◌≡◌, IfOk, OnOk};
+ghost use Rattle.stream.specs.Run.{Reads, Opens, Listed, Lists};
+ghost use Rattle.std.specs.Io.KnownBytes.{Appends, Consumes, IsAtEnd};
 ghost use Rattle.listing.specs.Whole.{unopened};
 
 use desk::{Answered, Desk, Held};
@@ -34,30 +36,36 @@ fn put_off(error: Error, kinds: &[ErrorKind]) -> io::Result<()> {
 pub fn fill<R: Read>(from: &mut R, bytes: &mut [u8], again: &[ErrorKind]) -> io::Result<usize>
     ensures count_in_bounds { IfOk result (λ n. n ≤ length bytes.new) }
     ensures bytes_len_unchanged { length bytes.new ≡ length bytes.old }
+    ensures consumed { IfOk result (λ n. Consumes (R.remaining from.old) (R.remaining from.new) (take n bytes.new)) }
+    ensures end { IfOk result (λ n. n < length bytes.new → IsAtEnd (R.remaining from.new)) }
 {
     let mut count = 0;
     for _ in 0..u64::MAX {
         if count == bytes.len() {
-            break;
+            return Ok(count);
         }
         match from.read(&mut bytes[count..]) {
-            Ok(0) => break,
+            Ok(0) => return Ok(count),
             Ok(came) => count += came,
             Err(e) => put_off(e, again)?,
         }
     }
-    Ok(count)
+    Err(Error::from(ErrorKind::Interrupted))
 }
 
 fn read<R: Read>(from: &mut R, bytes: &mut [u8]) -> Result<usize, Failure>
     ensures count_in_bounds { IfOk result (λ n. n ≤ length bytes.new) }
     ensures bytes_len_unchanged { length bytes.new ≡ length bytes.old }
+    ensures consumed { IfOk result (λ n. Consumes (R.remaining from.old) (R.remaining from.new) (take n bytes.new)) }
+    ensures end { IfOk result (λ n. n < length bytes.new → IsAtEnd (R.remaining from.new)) }
 {
     fill(from, bytes, &PUT_OFF).map_err(Failure::Input)
 }
 
 // Writes all the bytes.
-fn write<W: Write>(to: &mut W, bytes: &[u8]) -> Result<(), Failure> {
+fn write<W: Write>(to: &mut W, bytes: &[u8]) -> Result<(), Failure>
+    ensures { OnOk result (Appends (W.contents to.old) (W.contents to.new) bytes.now) }
+{
     let mut count = 0;
     for _ in 0..u64::MAX {
         if count == bytes.len() {
@@ -84,7 +92,8 @@ fn nothing() -> Held
 
 // The opening bytes at the start of the buffer: the purse count, and as many balance bytes as follow it.
 fn read_opening<R: Read>(from: &mut R, bytes: &mut [u8; 129]) -> Result<usize, Failure>
-    ensures { IfOk result (λ n. n ≤ 129) }
+    ensures count_in_bounds { IfOk result (λ n. n ≤ 129) }
+    ensures read { IfOk result (λ n. Reads (R.remaining from.old) (take n bytes.new) (R.remaining from.new)) }
 {
     if read(from, &mut bytes[..1])? == 0 {
         return Ok(0);
@@ -94,7 +103,9 @@ fn read_opening<R: Read>(from: &mut R, bytes: &mut [u8; 129]) -> Result<usize, F
 }
 
 // The bench that the input's opening bytes open, or the number by which opening refuses.
-fn open<R: Read>(from: &mut R) -> Result<Answered, Failure> {
+fn open<R: Read>(from: &mut R) -> Result<Answered, Failure>
+    ensures { IfOk result (λ a. Opens (R.remaining from.old) a (R.remaining from.new)) }
+{
     let mut bytes = [0; 129];
     let got = read_opening(from, &mut bytes)?;
     let opening = listing::read_opening(&bytes[..got]);
@@ -104,7 +115,11 @@ fn open<R: Read>(from: &mut R) -> Result<Answered, Failure> {
 // Event lines as they come, and what the bench then holds. A piece is 512 whole events, the last one of the input shorter, with an event cut
 // short at its end. Where a read fails no event is cut short by the input's end, so nothing of that piece is listed. No piece begins past the
 // last event number that is listed.
-fn events<R: Read, W: Write>(from: &mut R, to: &mut W, opened: Held) -> Result<Held, Failure> {
+fn events<R: Read, W: Write>(from: &mut R, to: &mut W, opened: Held) -> Result<Held, Failure>
+    ensures { IfOk result (λ h. (bytes : List ℕ)
+        × Listed opened bytes (R.remaining from.old) (R.remaining from.new) (W.contents to.old) (W.contents to.new) h
+        × (length bytes < 12 * 1_000_000_000_000_000_000 → IsAtEnd (R.remaining from.new))) }
+{
     let mut input = [0; 6144];
     let mut lines = [0; 21504];
     let mut held = opened;
@@ -122,16 +137,19 @@ fn events<R: Read, W: Write>(from: &mut R, to: &mut W, opened: Held) -> Result<H
 
 // The whole run: header, event lines as they come, purse lines and the last line; or the header and the line of a refused opening. What
 // fails ends it.
-pub fn list<R: Read, W: Write>(from: &mut R, to: &mut W) -> Result<(), Failure> {
+pub fn list<R: Read, W: Write>(from: &mut R, to: &mut W) -> Result<(), Failure>
+    ensures { OnOk result (Lists (R.remaining from.old) (W.contents to.old) (W.contents to.new)) }
+{
     let mut lines = [0; 4096];
     let length = listing::header(&mut lines);
     write(to, &lines[..length])?;
     let opened = open(from)?;
-    let length = if opened.answer == 0 {
+    if opened.answer == 0 {
         let last = events(from, to, opened.held)?;
-        listing::foot(&mut lines, last)
+        let length = listing::foot(&mut lines, last);
+        write(to, &lines[..length])
     } else {
-        listing::refused(&mut lines, opened.answer)
-    };
-    write(to, &lines[..length])
+        let length = listing::refused(&mut lines, opened.answer);
+        write(to, &lines[..length])
+    }
 }
