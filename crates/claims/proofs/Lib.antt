@@ -1,4 +1,3 @@
 pub mod Summed
-pub mod Gathered
 pub mod Partners
 pub mod Unique

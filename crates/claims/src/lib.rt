@@ -2,12 +2,12 @@
 // one over the archive; a pair is counted once, at its payer's entry.
 #![tactic(auto)]
 
-ghost use Rattle.std.specs.Prelude.{◌≡◌, true, map, ◌≤◌, get_or, length};
+ghost use Rattle.std.specs.Prelude.{◌≡◌, true, map, ◌*◌, ◌≤◌, get_or, length};
 ghost use Rattle.purse.specs.Lists.{every, total};
 ghost use Rattle.purse.specs.Purse.{zero_purse};
 ghost use Rattle.rules.specs.Laid.{held_claims};
 ghost use Rattle.table_records.specs.Records.{entry_key, collected, record_of};
-ghost use Rattle.claims.specs.Claims.{log_entries, payee_logged, entry_claim, log_fits};
+ghost use Rattle.claims.specs.Claims.{entry_by, log_entries, payee_logged, entry_claim, log_fits};
 
 use desk::{Archive, Entry, Figure, Held};
 use purse::{Details, Name, Purse};
@@ -79,6 +79,23 @@ fn sum_of_archive(books: Books) -> u64
     sum
 }
 
+// What the entries of one log add.
+fn sum_of_log(own: u8, log: &[Details], books: Books) -> u64
+    requires { length log.now ≤ 8 }
+    ensures value { result ≡ total (entry_claim books.entry.table.now books.entry.archive.now) (map (entry_by own) log.now) }
+    ensures most { result ≤ 8 * 4_294_967_295 }
+{
+    let mut sum: u64 = 0;
+    for d in log {
+        let e = Entry {
+            by: Name(own),
+            details: *d,
+        };
+        sum += claim_of(e, books) as u64;
+    }
+    sum
+}
+
 // What the entries of the logs of that many purses add.
 fn sum_of_logs(purses: u8, books: Books) -> u64
     requires { (purses ≤ 32) × (every purses (λ p. log_fits (get_or books.table.now p zero_purse)) ≡ true) }
@@ -89,13 +106,7 @@ fn sum_of_logs(purses: u8, books: Books) -> u64
     for own in 0..purses {
         let p = &table[own as usize];
         let logged = p.logged as usize;
-        for i in 0..logged {
-            let e = Entry {
-                by: Name(own),
-                details: p.log[i],
-            };
-            sum += claim_of(e, books) as u64;
-        }
+        sum += sum_of_log(own, &p.log[..logged], books);
     }
     sum
 }
@@ -108,7 +119,7 @@ pub fn claims(held: Held) -> Figure
         let keys = keys_of(&archive.places);
         let books = Books {
             table: &held.table,
-            archive: archive,
+            archive,
             keys: &keys,
         };
         let cards = sum_of_logs(held.desk.purses, books);

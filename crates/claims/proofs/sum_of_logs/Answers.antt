@@ -1,13 +1,13 @@
--- The outer loop adds one log more, the inner one entry more, each a number of four bytes. Assumes nothing.
+-- Each turn of the loop adds one log more, each of eight entries at most. Assumes nothing.
 use Prim.Native.Nat.{ℕ, ◌+◌, ◌≤◌, ◌<◌}
-use mathlib.Core.Path.{◌≡◌, sym, ap, ◌∙◌}
+use mathlib.Core.Path.{◌≡◌, ap, ◌∙◌}
 use mathlib.Core.Bool.{true}
-use mathlib.Core.List.{List, [], ◌∷◌, ◌++◌, append-nil}
-use lib.ListN.{length, get_or}
+use mathlib.Core.List.{List, [], map}
+use lib.ListN.{length, get_or, length-take}
 use lib.Dec.{leb, eqb}
+use native.Mathlib.Numerals.{add-one}
 use native.Mathlib.Omega.{arith}
 use borrow.Author.Tests.{eqb-true, leb-true}
-use borrow.Author.Rules.{rules}
 use Rattle.purse.specs.declared.Purse.{Purse}
 use Rattle.purse.specs.Lists.{total}
 use Rattle.purse.specs.Details.{zero_details}
@@ -16,8 +16,8 @@ use Rattle.purse.proofs.Bools.{and_l, and_r}
 use Rattle.purse.proofs.Count.{total-append}
 use Rattle.purse.proofs.Lists.{every_at, at_any}
 use Rattle.desk.specs.declared.Entry.{Entry}
+use Rattle.rules.specs.Bench.{kept}
 use Rattle.claims.specs.Claims.{entry_by, log_entries, entry_claim, log_fits}
-use Rattle.claims.proofs.Gathered.{row, row_more, row_whole}
 use Rattle.claims.proofs.sum_of_logs.Goals as goal
 use Rattle.claims.proofs.sum_of_logs.Goals.{Start}
 
@@ -44,40 +44,26 @@ fits-at start own below =
       few = leb-true _ _ (and_r (eqb (length p.log) 8) (leb p.logged 8) ok);
     }
 
-pub overflow_cast-logged : goal.overflow_cast-logged
-overflow_cast-logged c =
-    let few = (fits-at (goal.at.overflow_cast-logged c).Start c.loop-own.own c.loop-own-test.true).few in
-    search rules
+pub shared_ref_as_front-sum_of_log : goal.shared_ref_as_front-sum_of_log
+shared_ref_as_front-sum_of_log c =
+    let fits = fits-at (goal.at.shared_ref_as_front-sum_of_log c).Start c.loop-own.own c.loop-own-test.true in
+    omega (arith, fits.eight, fits.few)
 
-pub loop-i-init : goal.loop-i-init
-loop-i-init c =
-    let so_far = append-nil (log_entries c.loop-own.own c.args.books.table.now) in (
-      (fits-at (goal.at.loop-i-init c).Start c.loop-own.own c.loop-own-test.true).few,
-      c.loop-own.invariant.0 ∙ ap (total (entry_claim c.args.books.table.now c.args.books.archive.now)) (sym so_far),
-      omega (arith, c.loop-own.invariant.1),
-    )
-
-pub loop-i-preserved : goal.loop-i-preserved
-loop-i-preserved c =
-    let l = c.args.books.table.now in
-    let w : Entry → ℕ = entry_claim l c.args.books.archive.now in
+pub sum_of_log-sum-requires : goal.sum_of_log-sum-requires
+sum_of_log-sum-requires c =
     let own = c.loop-own.own in
-    let log = (get_or l own none).log in
-    let i = c.loop-i.i in
-    let e : Entry = entry_by own (get_or log i zero_details) in
-    let fits = fits-at (goal.at.loop-i-preserved c).Start own c.loop-own-test.true in
-    let more : row own l log (i + 1) ≡ row own l log i ++ (e ∷ []) = row_more own l log i (omega (arith, fits.eight, fits.few, c.loop-i-test.true)) in
-    let added : total w (row own l log (i + 1)) ≡ total w (row own l log i) + total w (e ∷ []) = ap (total w) more ∙ total-append w (row own l log i) (e ∷ []) in (
-      c.loop-i.invariant.0,
-      omega (arith, added, c.claim_of.ensures, c.loop-i.invariant.1),
-      omega (arith, c.claim_of.type_inv, c.loop-i.invariant.2),
-    )
+    let p : Purse = get_or c.args.books.table.now own none in
+    let fits = fits-at (goal.at.sum_of_log-sum-requires c).Start own c.loop-own-test.true in
+    omega (arith, fits.eight, length-take p.logged p.log)
 
 pub loop-own-preserved : goal.loop-own-preserved
 loop-own-preserved c =
     let l = c.args.books.table.now in
+    let w : Entry → ℕ = entry_claim l c.args.books.archive.now in
     let own = c.loop-own.own in
     let fits = fits-at (goal.at.loop-own-preserved c).Start own c.loop-own-test.true in
-    let done : c.loop-i.i ≡ (get_or l own none).logged = omega (arith, c.loop-i.auto, c.loop-i-test.false) in
-    let whole : row own l (get_or l own none).log c.loop-i.i ≡ log_entries (own + 1) l = row_whole own l none c.loop-i.i fits.inside done in
-    (c.loop-i.invariant.1 ∙ ap (total (entry_claim l c.args.books.archive.now)) whole, omega (arith, c.loop-i.invariant.2, fits.few, done))
+    let here : c.sum_of_log-sum.result ≡ total w (map (entry_by own) (kept (get_or l own zero_purse))) =
+    c.sum_of_log-sum.ensures.value ∙ ap (λ (p : Purse). total w (map (entry_by own) (kept p))) (at_any l own none zero_purse fits.inside) in
+    let more : total w (log_entries (own + 1) l) ≡ total w (log_entries own l) + total w (map (entry_by own) (kept (get_or l own zero_purse))) =
+    rw (add-one own) (total-append w (log_entries own l) (map (entry_by own) (kept (get_or l own zero_purse)))) in
+    (omega (arith, more, here, c.loop-own.invariant.0), omega (arith, c.sum_of_log-sum.ensures.most, c.loop-own.invariant.1))

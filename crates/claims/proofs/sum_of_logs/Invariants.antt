@@ -1,14 +1,9 @@
--- The outer loop adds one log more, the inner one entry more, each a number of four bytes. Assumes nothing.
-use Prim.Native.Nat.{◌+◌, ◌*◌, ◌≤◌}
+-- Each turn of the loop adds one log more, each of eight entries at most. Assumes nothing.
+use Prim.Native.Nat.{◌*◌, ◌≤◌}
 use mathlib.Core.Path.{◌≡◌}
 use Rattle.purse.specs.Lists.{total}
 use Rattle.claims.specs.Claims.{log_entries, entry_claim}
-use Rattle.claims.proofs.Gathered.{row}
 use Rattle.claims.proofs.sum_of_logs.Given as goal
-
-abbrev pub invariant-loop-i : goal.invariant-loop-i
-invariant-loop-i l =
-    (l.logged ≤ 8) × (l.sum ≡ total (entry_claim l.books.table.now l.books.archive.now) (row l.own l.books.table.now l.p.log l.i)) × (l.sum ≤ 4294967295 * (8 * l.own + l.i))
 
 abbrev pub invariant-loop-own : goal.invariant-loop-own
 invariant-loop-own l =
