@@ -28,7 +28,7 @@ pub fn seen_at(desk: &Desk, event: &[u8]) -> Seen
 }
 
 // What an event at its record p writes, by what is seen of it, written at the desk; the record is the caller's to store.
-#[tactic(auto, using(crate::proofs::Written::below))]
+#[tactic(auto, using(crate::proofs::Written::below, crate::proofs::Written::deed_is, crate::proofs::Written::stays, crate::proofs::Written::loses))]
 pub fn written_at(desk: &mut Desk, p: Purse, seen: Seen, event: &[u8]) -> Deed
     ensures { (result ≡ deed_at p seen desk.old (decoded event.now))
         × (desk.new ≡ desk_after desk.old (deed_at p seen desk.old (decoded event.now))) }
