@@ -32,7 +32,7 @@ fn put_off(error: Error, kinds: &[ErrorKind]) -> io::Result<()> {
 }
 
 // Reads until the bytes are full or the input ends, and returns how many came; reads again after a failure of those kinds. A proved loop has
-// to end, and nothing says that an input does: it has a number of turns that no run uses up.
+// to end, and nothing says that an input does: it has a number of turns that no run uses up, and would fail behind them.
 pub fn fill<R: Read>(from: &mut R, bytes: &mut [u8], again: &[ErrorKind]) -> io::Result<usize>
     ensures count_in_bounds { IfOk result (λ n. n ≤ length bytes.new) }
     ensures bytes_len_unchanged { length bytes.new ≡ length bytes.old }
