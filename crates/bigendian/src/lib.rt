@@ -23,6 +23,7 @@ pub fn put_byte(out: &mut [u8], at: usize, v: u8)
 }
 
 // A count in two bytes; nothing where they have no room.
+#[tactic(auto, unfolding(crate::specs::Bytes::big))]
 pub fn put_count(out: &mut [u8], at: usize, count: u16)
     ensures { out.new ≡ put_in 2 out.old at (big 2 count) }
 {
@@ -37,6 +38,7 @@ pub fn put_number(out: &mut [u8], at: usize, number: u32)
 }
 
 // A count of two bytes; 0 where they are not all there.
+#[tactic(auto, using(crate::proofs::Numbers::read_there, crate::proofs::Numbers::read_missing), unfolding(crate::specs::Bytes::number_at))]
 pub fn count_at(l: &[u8], at: usize) -> u16
     ensures { result ≡ read_in (number_at 2) 2 0 l.now at }
 {
@@ -47,6 +49,7 @@ pub fn count_at(l: &[u8], at: usize) -> u16
 }
 
 // A number of four bytes, likewise.
+#[tactic(auto, using(crate::proofs::Numbers::read_there, crate::proofs::Numbers::read_missing), unfolding(crate::specs::Bytes::number_at, crate::specs::Bytes::number_in))]
 pub fn number_at(l: &[u8], at: usize) -> u32
     ensures { result ≡ number_in l.now at }
 {

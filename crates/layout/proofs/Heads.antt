@@ -1,16 +1,16 @@
 -- What it says of an image that no test of its head applies.
 -- Assumes nothing.
 use Prim.Native.Nat.{ℕ, ◌≤◌}
-use mathlib.Core.Path.{◌≡◌, refl}
+use mathlib.Core.Path.{◌≡◌}
 use mathlib.Core.Bool.{Bool, true, false, ◌&&◌, not}
 use mathlib.Core.List.{List}
-use lib.ListN.{length, drop}
+use lib.ListN.{length}
 use lib.Dec.{ltb, leb, eqb}
 use native.Mathlib.Omega.{arith}
 use borrow.Author.Tests.{leb-true, eqb-true, not-false, le-ltb, le-leb, eq-eqb}
-use Rattle.purse.specs.Tests.{first, walked}
+use Rattle.purse.specs.Tests.{first}
 use Rattle.purse.proofs.Bools.{and_l, and_r, and_i}
-use Rattle.purse.proofs.Tests.{passed, walks}
+use Rattle.purse.proofs.Tests.{passed}
 use Rattle.bigendian.specs.Bytes.{byte_at}
 use Rattle.layout.specs.Widths.{head_width}
 use Rattle.layout.specs.Head.{version, marked, version_in, purses_in, messages_in, entries_in, image_length, counts_in, head_tests}
@@ -57,10 +57,6 @@ head_ok_lem l e =
       entries = leb-true _ _ (and_r (i && j && k) n counts);
       long = eqb-true _ _ (not-false _ p5.0);
     }
-
--- past the first test the others are taken one by one
-pub later : (l : List ℕ) → ltb (length l) head_width ≡ false → walked 0 (drop 1 (head_tests l)) ≡ first (head_tests l)
-later l e = rw e (walks (drop 1 (head_tests l)) refl)
 
 pub ok_head : (l : List ℕ) → HeadOk l → first (head_tests l) ≡ 0
 ok_head l h =

@@ -24,7 +24,7 @@ pub fn image_length(purses: u8, messages: u16, entries: u16) -> usize
     ensures { result ≡ image_length purses messages entries }
 {
     HEAD_WIDTH
-        + PURSE_WIDTH * (purses as usize)
-        + MESSAGE_WIDTH * (messages as usize)
-        + ENTRY_WIDTH * (entries as usize)
+        + PURSE_WIDTH * usize::from(purses)
+        + MESSAGE_WIDTH * usize::from(messages)
+        + ENTRY_WIDTH * usize::from(entries)
 }

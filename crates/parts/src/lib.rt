@@ -60,6 +60,7 @@ impl Part for Details {
 
     ghost zero = { zero_details };
 
+    #[tactic(auto, using(layout::proofs::Records::details_coded, bigendian::proofs::Puts::put_nowhere))]
     fn put(&self, out: &mut [u8], at: usize) {
         if out.len().saturating_sub(at) < DETAILS_WIDTH {
             return;
@@ -71,6 +72,7 @@ impl Part for Details {
         put_number(out, at + AMOUNT_PLACE, self.amount.0);
     }
 
+    #[tactic(auto, using(bigendian::proofs::Numbers::read_there, bigendian::proofs::Numbers::read_missing, bigendian::proofs::Numbers::number_there), unfolding(layout::specs::Records::details_at))]
     fn get(s: &[u8], at: usize) -> Details {
         if s.len().saturating_sub(at) < DETAILS_WIDTH {
             return Details::default();
@@ -100,6 +102,7 @@ impl Part for Purse {
 
     ghost zero = { zero_purse };
 
+    #[tactic(auto, using(layout::proofs::Records::purse_coded, bigendian::proofs::Puts::put_nowhere))]
     fn put(&self, out: &mut [u8], at: usize) {
         if out.len().saturating_sub(at) < PURSE_WIDTH {
             return;
@@ -112,6 +115,7 @@ impl Part for Purse {
         put_all(out, at + LOG_PLACE, &self.log, 8);
     }
 
+    #[tactic(auto, using(bigendian::proofs::Numbers::read_there, bigendian::proofs::Numbers::read_missing, bigendian::proofs::Numbers::number_there, bigendian::proofs::Gets::first_whole, std::proofs::lemmas::Grind::common_steps), unfolding(layout::specs::Records::purse_at))]
     fn get(s: &[u8], at: usize) -> Purse {
         if s.len().saturating_sub(at) < PURSE_WIDTH {
             return Purse::default();
@@ -144,6 +148,7 @@ impl Part for Message {
 
     ghost zero = { zero_message };
 
+    #[tactic(auto, using(layout::proofs::Records::message_coded, bigendian::proofs::Puts::put_nowhere))]
     fn put(&self, out: &mut [u8], at: usize) {
         if out.len().saturating_sub(at) < MESSAGE_WIDTH {
             return;
@@ -152,6 +157,7 @@ impl Part for Message {
         self.details.put(out, at + BYTE_WIDTH);
     }
 
+    #[tactic(auto, using(bigendian::proofs::Numbers::read_there, bigendian::proofs::Numbers::read_missing), unfolding(layout::specs::Records::message_at))]
     fn get(s: &[u8], at: usize) -> Message {
         if s.len().saturating_sub(at) < MESSAGE_WIDTH {
             return Message::default();
@@ -178,6 +184,7 @@ impl Part for Entry {
 
     ghost zero = { zero_entry };
 
+    #[tactic(auto, using(layout::proofs::Records::entry_coded, bigendian::proofs::Puts::put_nowhere))]
     fn put(&self, out: &mut [u8], at: usize) {
         if out.len().saturating_sub(at) < ENTRY_WIDTH {
             return;
@@ -186,6 +193,7 @@ impl Part for Entry {
         self.details.put(out, at + BYTE_WIDTH);
     }
 
+    #[tactic(auto, using(bigendian::proofs::Numbers::read_there, bigendian::proofs::Numbers::read_missing), unfolding(layout::specs::Records::entry_at))]
     fn get(s: &[u8], at: usize) -> Entry {
         if s.len().saturating_sub(at) < ENTRY_WIDTH {
             return Entry::default();

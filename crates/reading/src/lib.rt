@@ -29,25 +29,25 @@ struct Counts {
 }
 
 impl Counts {
+    #[tactic(auto, using(bigendian::proofs::Numbers::count_there))]
+    fn of(s: &[u8]) -> Counts
+        requires { head_width ≤ length s.now }
+        ensures purses { result.purses ≡ purses_in s.now }
+        ensures messages { result.messages ≡ messages_in s.now }
+        ensures entries { result.entries ≡ entries_in s.now }
+    {
+        Counts {
+            purses: s[PURSES_PLACE],
+            messages: count_at(s, MESSAGES_PLACE),
+            entries: count_at(s, ENTRIES_PLACE),
+        }
+    }
+
     // 1 to 32 purses, at most 256 messages and 256 archive entries.
     fn are_legal(self) -> bool
         ensures { result ≡ (leb 1 self.purses && leb self.purses 32 && leb self.messages 256 && leb self.entries 256) }
     {
         1 <= self.purses && self.purses <= 32 && self.messages <= 256 && self.entries <= 256
-    }
-}
-
-#[tactic(auto, using(bigendian::proofs::Numbers::count_there))]
-fn said_counts(s: &[u8]) -> Counts
-    requires { head_width ≤ length s.now }
-    ensures purses { result.purses ≡ purses_in s.now }
-    ensures messages { result.messages ≡ messages_in s.now }
-    ensures entries { result.entries ≡ entries_in s.now }
-{
-    Counts {
-        purses: s[PURSES_PLACE],
-        messages: count_at(s, MESSAGES_PLACE),
-        entries: count_at(s, ENTRIES_PLACE),
     }
 }
 
@@ -67,7 +67,7 @@ fn check_head(s: &[u8]) -> Result<(), Refusal>
     refuse_if(s.len() < HEAD_WIDTH, Refusal::BadLength)?;
     refuse_if(!is_marked(s), Refusal::WrongMark)?;
     refuse_if(count_at(s, VERSION_PLACE) != VERSION, Refusal::WrongVersion)?;
-    let n = said_counts(s);
+    let n = Counts::of(s);
     refuse_if(!n.are_legal(), Refusal::NotWellFormed)?;
     refuse_if(
         s.len() != image_length(n.purses, n.messages, n.entries),
@@ -86,7 +86,7 @@ fn get_bench(s: &[u8]) -> Held
         purses,
         messages,
         entries,
-    } = said_counts(s);
+    } = Counts::of(s);
     let messages_from = HEAD_WIDTH + PURSE_WIDTH * usize::from(purses);
     let entries_from = messages_from + MESSAGE_WIDTH * usize::from(messages);
     let mut table = [Purse::default(); 32];

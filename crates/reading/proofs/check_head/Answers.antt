@@ -14,7 +14,7 @@ use Rattle.reading.proofs.check_head.Goals as goal
 pub returns : goal.returns
 returns c =
     let l = c.args.s.now in
-    let says = c.said_counts-n.ensures in
+    let says = c.of-n.ensures in
     let long = passed_by _ _ c.in_ok-refuse_if.ensures in
     let mark : not (marked l) ≡ false = rw (← c.is_marked.ensures) (passed_by _ _ c.in_ok-refuse_if-2.ensures) in
     let there = count_there l version_place (omega (arith, ltb-false _ _ long)) in

@@ -22,7 +22,7 @@ pub returns : goal.returns
 returns c =
     let l = c.args.s.now in
     let h = head_ok_lem l c.requires in
-    let says = c.said_counts-purses.ensures in
+    let says = c.of-purses.ensures in
     let p = purses_in l in
     let m = messages_in l in
     let a = entries_in l in

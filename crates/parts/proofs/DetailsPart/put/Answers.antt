@@ -3,13 +3,9 @@
 use mathlib.Core.Path.{sym, ◌∙◌}
 use native.Mathlib.Omega.{arith}
 use Rattle.bigendian.specs.Bytes.{big}
-use Rattle.bigendian.proofs.Puts.{put_there, put_nowhere, then_there}
+use Rattle.bigendian.proofs.Puts.{put_there, then_there}
 use Rattle.layout.specs.Records.{details_bytes}
-use Rattle.layout.proofs.Records.{details_coded}
 use Rattle.parts.proofs.DetailsPart.put.Goals as goal
-
-pub returns-then-saturating_sub-lt-DETAILS_WIDTH : goal.returns-then-saturating_sub-lt-DETAILS_WIDTH
-returns-then-saturating_sub-lt-DETAILS_WIDTH c = record { put = sym (put_nowhere _ _ _ _ (omega arith)); wide = details_coded.wide _ tt }
 
 pub returns-clause-put : goal.returns-clause-put
 unfolding details_bytes big
@@ -21,6 +17,3 @@ returns-clause-put c =
     let e3 = then_there l at _ _ 1 e2 (omega arith) c.put_byte-2.ensures (omega arith) in
     let e4 = then_there l at _ _ 4 e3 (omega arith) c.put_number-2.ensures (omega arith) in
     then_there l at _ _ 4 e4 (omega arith) c.put_number-3.ensures (omega arith) ∙ sym (put_there _ _ _ _ (omega arith))
-
-pub returns-clause-wide : goal.returns-clause-wide
-returns-clause-wide c = details_coded.wide _ tt

@@ -2,14 +2,10 @@
 -- Assumes nothing.
 use mathlib.Core.Path.{sym, ◌∙◌}
 use native.Mathlib.Omega.{arith}
-use Rattle.bigendian.proofs.Puts.{put_there, put_nowhere, then_there}
+use Rattle.bigendian.proofs.Puts.{put_there, then_there}
 use Rattle.layout.specs.Widths.{details_width}
 use Rattle.layout.specs.Records.{entry_bytes}
-use Rattle.layout.proofs.Records.{entry_coded}
 use Rattle.parts.proofs.EntryPart.put.Goals as goal
-
-pub returns-then-saturating_sub-lt-ENTRY_WIDTH : goal.returns-then-saturating_sub-lt-ENTRY_WIDTH
-returns-then-saturating_sub-lt-ENTRY_WIDTH c = record { put = sym (put_nowhere _ _ _ _ (omega arith)); wide = entry_coded.wide _ tt }
 
 pub returns-clause-put : goal.returns-clause-put
 unfolding entry_bytes
@@ -18,6 +14,3 @@ returns-clause-put c =
     let at = c.args.at in
     let e1 = c.put_byte.ensures ∙ put_there 1 l at _ (omega arith) in
     then_there l at _ _ details_width e1 (omega arith) c.put.ensures.put (omega arith) ∙ sym (put_there _ _ _ _ (omega arith))
-
-pub returns-clause-wide : goal.returns-clause-wide
-returns-clause-wide c = entry_coded.wide _ tt

@@ -4,15 +4,11 @@ use mathlib.Core.Path.{◌≡◌, sym, ◌∙◌}
 use native.Mathlib.Omega.{arith}
 use lib.ListN.{length, length-append}
 use Rattle.bigendian.specs.Bytes.{big}
-use Rattle.bigendian.proofs.Puts.{put_there, put_nowhere, then_put, then_there, whole-put}
+use Rattle.bigendian.proofs.Puts.{put_there, then_put, then_there, whole-put}
 use Rattle.layout.specs.Widths.{details_width}
 use Rattle.layout.specs.Records.{purse_bytes}
-use Rattle.layout.proofs.Records.{purse_coded}
 use borrow.Author.Rules.{rules}
 use Rattle.parts.proofs.PursePart.put.Goals as goal
-
-pub returns-then-saturating_sub-lt-PURSE_WIDTH : goal.returns-then-saturating_sub-lt-PURSE_WIDTH
-returns-then-saturating_sub-lt-PURSE_WIDTH c = record { put = sym (put_nowhere _ _ _ _ (omega arith)); wide = purse_coded.wide _ (search rules) }
 
 pub returns-clause-put : goal.returns-clause-put
 unfolding purse_bytes big
@@ -27,6 +23,3 @@ returns-clause-put c =
     let e5 = then_there l at _ _ details_width e4 (omega arith) c.put.ensures.put (omega arith) in
     let log = c.put_all.ensures ∙ whole-put _ _ _ _ _ _ _ long (omega arith) (omega arith) in
     then_put l at _ _ e5 (simp length-append (omega (arith, c.put.ensures.wide))) log ∙ sym (put_there _ _ _ _ (omega arith))
-
-pub returns-clause-wide : goal.returns-clause-wide
-returns-clause-wide c = purse_coded.wide _ (search rules)
