@@ -19,7 +19,7 @@ use Rattle.rules.specs.Laid.{held_ok, held_step, held_run, held_answers}
 use Rattle.rules.proofs.Carried.{held_kept}
 use Rattle.asks.specs.Asks.{place_of, delivered_at, asked}
 use Rattle.acts.specs.Acts.{told_at, settled, act_on, by_record}
-use Rattle.bench.specs.Runs.{taken, pieces}
+use Rattle.bench.specs.Runs.{smaller, taken, pieces}
 use Rattle.acts.proofs.ByRecord.{stays, step_by_record}
 
 -- places filled from the front: those filled are the front of `whole`, the others as they were
@@ -122,6 +122,14 @@ taken_is input answers =
     elim (which (leb (length input / 12) (length answers))) [
       | inl l ↦ rw l (let h : length input / 12 ≤ length answers = leb-true _ _ l in omega arith)
       | inr g ↦ rw g (let h : length answers < length input / 12 = leb-false _ _ g in omega arith)
+    ]
+
+-- the events taken are whole, and each has a place
+pub taken-fits : (n x y : ℕ) → n ≡ smaller (x / 12) y → (12 * n ≤ x) × (n ≤ y)
+taken-fits n x y e =
+    elim (which (leb (x / 12) y)) [
+      | inl l ↦ let k : n ≡ x / 12 = e ∙ rw l refl in (omega arith, omega (arith, leb-true (x / 12) y l))
+      | inr g ↦ let k : n ≡ y = e ∙ rw g refl in (omega (arith, leb-false (x / 12) y g), omega arith)
     ]
 
 -- an event alone is a run of one
