@@ -1,5 +1,5 @@
 -- Lists, over any element type: each of a number of places, each member, some member, no two the same, those kept, a sum, lists in a row, one taken out.
-use Rattle.std.specs.Prelude.{ℕ, zero, suc, ◌+◌, ◌-◌, Bool, true, false, ◌&&◌, ◌||◌, not, cond, List, [], ◌∷◌, ◌++◌, length, take, drop, replicate, filter}
+use Rattle.std.specs.Prelude.{ℕ, zero, suc, ◌+◌, ◌-◌, Bool, true, ◌&&◌, not, List, [], ◌∷◌, ◌++◌, length, take, drop, replicate, filter}
 use Rattle.std.specs.List.{list_all, list_any}
 
 -- f holds at each of 0 .. n - 1
