@@ -2,15 +2,15 @@
 -- one comes to.
 -- Assumes nothing.
 use Prim.Native.Nat.{ℕ, ◌+◌, ◌≤◌, ◌<◌, min}
-use mathlib.Core.Path.{◌≡◌, refl, ◌∙◌, sym, ap}
+use mathlib.Core.Path.{◌≡◌, ◌∙◌, sym, ap}
 use mathlib.Core.Bool.{Bool, true, false, ◌&&◌, ◌||◌, and-true, and_assoc}
 use mathlib.Core.List.{List, ◌∷◌}
 use lib.ListN.{length, take, drop, get_or, drop_of_length-le}
-use lib.Seq.{drop-cons, length-take-le, get_or-take}
+use lib.Seq.{drop-cons}
 use native.Mathlib.Numerals.{add-one}
 use native.Mathlib.Omega.{arith}
 use Rattle.purse.specs.Lists.{every, all, among, distinct}
-use Rattle.purse.proofs.Lists.{all-next, among_next, distinct-next, pair_same, take_least}
+use Rattle.purse.proofs.Lists.{all-next, among_next, distinct-next, take_least}
 
 -- each of the places before i, and this one
 pub more_every : (f : ℕ → Bool) (i : ℕ) (ok₀ : Bool) {ok r : Bool} → ok ≡ (ok₀ && every i f) → r ≡ f i → (ok && r) ≡ (ok₀ && every (i + 1) f)
@@ -28,22 +28,11 @@ module _ {A : Type 0} where
   pub walked_all : {X : Type 0} (g : List A → X) (l : List A) (n many i : ℕ) {count : ℕ} {r : X} → length l ≡ many → count ≡ min n many → i ≡ count → r ≡ g (take i l) → r ≡ g (take n l)
   walked_all g l n many i h c e k = k ∙ ap (λ (m : ℕ). g (take m l)) (e ∙ c) ∙ ap g (take_least n many l (omega arith))
 
-  -- a loop that holds each against those before it, and leaves at the first that is the same: none so far, each so far apart, and why
-  -- two places that are the same settle it
-  pub none_more : (same : A → A → Bool) (x : A) (l : List A) (j : ℕ) (z : A) {r : Bool} → j < length l → among same x (take j l) ≡ false → r ≡ same x (get_or l j z) → r ≡ false → among same x (take (j + 1) l) ≡ false
-  none_more same x l j z h e k f = sym (more_any same x l j z h (sym e) k) ∙ f
-
+  -- a loop that holds each against those before it: each so far apart
   pub apart_more : (same : A → A → Bool) → ((x y : A) → same x y ≡ same y x) → (l : List A) (i j : ℕ) (z : A) → i < length l → distinct same (take i l) ≡ true → among same (get_or l i z) (take j l) ≡ false → j ≡ i → distinct same (take (i + 1) l) ≡ true
   apart_more same turn l i j z h e k g =
       let a : among same (get_or l i z) (take i l) ≡ false = rw g at k in
       distinct-next same turn l i z h ∙ rw (e, a)
-
-  pub pair_found : (same : A → A → Bool) → ((x y : A) → same x y ≡ same y x) → (l : List A) (n many i j : ℕ) (z : A) {count : ℕ} {r : Bool} → length l ≡ many → count ≡ min n many → i < count → j < i → r ≡ same (get_or l i z) (get_or l j z) → r ≡ true → false ≡ distinct same (take n l)
-  pair_found same turn l n many i j z {count} h c g q k t =
-      let long : length (take count l) ≡ count = length-take-le count l (omega arith) in
-      let e : same (get_or (take count l) j z) (get_or (take count l) i z) ≡ true =
-      rw (get_or-take count l i z g, get_or-take count l j z (omega arith)) (turn (get_or l j z) (get_or l i z) ∙ sym k ∙ t) in
-      walked_all (distinct same) l n many count h c refl (sym (pair_same same (take count l) z i j (omega arith) q e))
 
   -- one place less in the rest of the list: ok is what the places before i say
   pub rest_more : (f : A → Bool) (l : List A) (i : ℕ) (z : A) (ok : Bool) {r whole : Bool} → i < length l → (ok && all f (drop i l)) ≡ whole → r ≡ f (get_or l i z) → ((ok && r) && all f (drop (i + 1) l)) ≡ whole
