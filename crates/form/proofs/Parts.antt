@@ -1,15 +1,12 @@
 -- The rules of a record in the parts in which the code asks them: the head, and the log's used places before its unused ones.
 -- `every_split` says why two loops, one behind the other, ask every place of a list. Assumes nothing.
-use Prim.Native.Nat.{ℕ, zero, suc, ◌+◌, ◌-◌, ◌≤◌, ◌<◌, min}
-use mathlib.Core.Path.{◌≡◌, refl, sym, ◌∙◌, ap}
-use mathlib.Core.Bool.{Bool, true, false, ◌&&◌, ◌||◌, not, or-false}
+use Prim.Native.Nat.{ℕ, ◌+◌, ◌-◌, ◌≤◌, ◌<◌, min}
+use mathlib.Core.Path.{◌≡◌, sym, ◌∙◌, ap}
+use mathlib.Core.Bool.{Bool, true, false, ◌&&◌, not, or-false}
 use mathlib.Core.Logic.{⊎_elim}
 use mathlib.Core.List.{List}
-use lib.ListN.{length, take, drop, get_or, length-drop}
+use lib.ListN.{length, drop, get_or, length-drop}
 use lib.Seq.{get_or-drop}
-use native.Mathlib.Numerals.{add-one}
-use Rattle.std.specs.List.{list_any}
-use Rattle.purse.specs.declared.Details.{Details}
 use lib.Dec.{ltb}
 use native.Mathlib.Omega.{arith}
 use borrow.Author.Tests.{lt-ltb, lt-leb, le-ltb, le-leb, ltb-true, ltb-false, eq-eqb}
@@ -19,7 +16,7 @@ use Rattle.purse.specs.Lists.{every, all}
 use Rattle.purse.specs.Details.{zero_details, same_details, entry_ok, absent}
 use Rattle.purse.specs.Purse.{place_ok, log_ok, well_formed}
 use Rattle.purse.proofs.Bools.{and_l, and_r, and_i, which, together}
-use Rattle.purse.proofs.Lists.{every_at, every-all, all_at, all-places, among_next}
+use Rattle.purse.proofs.Lists.{every_at, every-all, all_at, all-places}
 use Rattle.form.specs.Form.{unused, head_ok}
 
 -- the places before u asked by g, the members behind them by h
@@ -49,19 +46,6 @@ module _ {A : Type 0} (f g : ℕ → Bool) (h : A → Bool) (l : List A) (z : A)
       let q : u ≤ i = ltb-false i u e in
       behind i q k ∙ rw (here i q) at (all_at h (drop u l) z (i - u) (and_r (every u g) (all h (drop u l)) t) (omega (arith, rest_long))))
       (which (ltb i u))))
-
-nor : (a b : Bool) → (not a && not b) ≡ not (a || b)
-nor true b = refl
-nor false b = refl
-
--- none of the first places is d, asked as one list
-pub absent_before : (log : List Details) (d : Details) (n : ℕ) → n ≤ length log → absent log d n ≡ not (list_any (λ (e : Details). same_details e d) (take n log))
-unfolding absent
-absent_before log d zero h = refl
-absent_before log d (suc n) h =
-    let before : absent log d n ≡ not (list_any (λ (e : Details). same_details e d) (take n log)) = absent_before log d n (omega arith) in
-    let more = among_next (λ (x y : Details). same_details y x) d log n zero_details (omega arith) in
-    rw (before, ← add-one n, more) (nor _ _)
 
 -- a used place's tests, without the test that it is used
 abbrev pub used_at : Name → Purse → ℕ → Bool

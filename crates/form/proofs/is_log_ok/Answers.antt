@@ -7,20 +7,18 @@ use Prim.Native.Nat.{◌-◌}
 use lib.ListN.{length, take, drop, length-drop}
 use lib.Seq.{take_all}
 use Rattle.purse.specs.declared.Purse.{Purse}
-use Rattle.purse.proofs.Lists.{unmapped}
 use Rattle.purse.proofs.Walks.{more_every}
 use Rattle.form.specs.Form.{logging}
-use Rattle.form.proofs.Parts.{used_at, absent_before, log_parts}
-use borrow.Author.Rules.{rules}
+use Rattle.form.proofs.Parts.{used_at, log_parts}
 use Rattle.form.proofs.is_log_ok.Goals as goal
 use Rattle.form.proofs.is_log_ok.Goals.{Start}
 
 -- the log, its count and what its rules read, as they are handed in
 abbrev told : Start → Purse
-told start = logging start.args.log.now start.args.logged start.args.running start.args.next
+told start = logging start.args.log start.args.logged start.args.running start.args.next
 
-long : (start : Start) → length start.args.log.now ≡ 8
-long start = search (rules, unmapped)
+long : (start : Start) → length start.args.log ≡ 8
+long start = start.well_formed.0.1.0.1
 
 pub loop-i-preserved : goal.loop-i-preserved
 loop-i-preserved c =
@@ -28,13 +26,13 @@ loop-i-preserved c =
     let i = c.loop-i.i in (
       c.loop-i.invariant.0,
       more_every (used_at c.args.own (told start)) i true c.loop-i.invariant.1
-          (rw (c.is_place_ok-ok.ensures, absent_before c.args.log.now _ i (omega (arith, long start)))),
+          (rw (c.is_place_ok.ensures, c.is_absent.ensures)),
     )
 
 pub returns : goal.returns
 returns c =
     let start = (goal.at.returns c).Start in
-    let l = c.args.log.now in
+    let l = c.args.log in
     let used = c.min-used.result in
     let full : c.loop-i.i ≡ used = omega arith in
     let rest : take (8 - used) (drop used l) ≡ drop used l = take_all (8 - used) (drop used l) (omega (arith, length-drop used l, long start)) in
