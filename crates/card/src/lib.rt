@@ -7,7 +7,7 @@ ghost use Rattle.purse.specs.Card.{step_by};
 ghost use Rattle.card.specs.Act.{act_by};
 
 use form::well_formed;
-use purse::{CardAnswer, CardEvent, Name, Purse};
+use purse::{CardAnswer, CardEvent, Name, Purse, Refusal};
 use refusals::Head;
 use turns::turn;
 
@@ -23,7 +23,7 @@ pub fn step(purse: Purse, own: Name, event: CardEvent) -> CardAnswer
     if well_formed(purse, own) {
         act(purse, own, event)
     } else {
-        log::refused(purse, 2)
+        log::refused(purse, Refusal::NotWellFormed)
     }
 }
 

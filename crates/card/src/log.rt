@@ -1,23 +1,35 @@
 // A record put together after a step: its new head, and its exception log with what becomes of it.
 ghost use Rattle.std.specs.Prelude.{◌≡◌, get_or};
 ghost use Rattle.purse.specs.Details.{zero_details};
+ghost use Rattle.purse.specs.Refusals.{number_of};
 ghost use Rattle.purse.specs.Step.{refused_by, moved_down};
-ghost use Rattle.card.specs.Act.{record_after, handed_out, answered_by};
+ghost use Rattle.card.specs.Act.{log_after, record_after, handed_out, answered_by};
 
-use purse::{CardAnswer, Details, Message, Purse};
+use purse::{CardAnswer, Details, Message, Purse, Refusal};
 use refusals::Head;
 use turns::{LogChange, Turned};
 
 // Refused: the record as it was, and nothing handed out.
-pub(crate) fn refused(p: Purse, n: u8) -> CardAnswer
-    ensures { result ≡ refused_by n p }
+pub(crate) fn refused(purse: Purse, why: Refusal) -> CardAnswer
+    ensures { result ≡ refused_by (number_of why) purse }
 {
     CardAnswer {
-        answer: n,
-        purse: p,
+        answer: u8::from(why),
+        purse,
         message: Message::default(),
         entry: Details::default(),
     }
+}
+
+// The running details behind the entries; past the last place nothing is put.
+fn appended(p: Purse) -> [Details; 8]
+    ensures { result ≡ log_after p LogChange.Append }
+{
+    let mut log = p.log;
+    if p.logged < Purse::LOG_PLACES {
+        log[p.logged as usize] = p.details;
+    }
+    log
 }
 
 // The oldest entry out, the later ones one place down.
@@ -25,8 +37,7 @@ pub(crate) fn refused(p: Purse, n: u8) -> CardAnswer
 fn moved_down(l: [Details; 8]) -> [Details; 8]
     ensures { result ≡ moved_down l }
 {
-    let z = Details::default();
-    [l[1], l[2], l[3], l[4], l[5], l[6], l[7], z]
+    [l[1], l[2], l[3], l[4], l[5], l[6], l[7], Details::default()]
 }
 
 // The first place of the log.
@@ -40,33 +51,18 @@ pub fn oldest(p: Purse) -> Details
 pub fn record(p: Purse, head: Head, change: LogChange) -> Purse
     ensures { result ≡ record_after p head change }
 {
-    let balance = head.balance;
-    let next = head.next;
-    let details = head.details;
-    let mut q = p;
-    q.balance = balance;
-    q.next = next;
-    q.status = head.status;
-    q.details = details;
-    q.logged = head.logged;
-    match change {
-        LogChange::Nothing => q,
-        LogChange::Append => {
-            let at = p.logged as usize;
-            let d = p.details;
-            if p.logged < Purse::LOG_PLACES {
-                q.log[at] = d;
-                q
-            } else {
-                q
-            }
-        }
-        LogChange::OldestOut => {
-            let l = p.log;
-            let moved = moved_down(l);
-            q.log = moved;
-            q
-        }
+    let log = match change {
+        LogChange::Nothing => p.log,
+        LogChange::Append => appended(p),
+        LogChange::OldestOut => moved_down(p.log),
+    };
+    Purse {
+        balance: head.balance,
+        next: head.next,
+        status: head.status,
+        details: head.details,
+        log,
+        logged: head.logged,
     }
 }
 
@@ -75,8 +71,7 @@ fn handed_out(p: Purse, change: LogChange) -> Details
     ensures { result ≡ handed_out p change }
 {
     match change {
-        LogChange::Nothing => Details::default(),
-        LogChange::Append => Details::default(),
+        LogChange::Nothing | LogChange::Append => Details::default(),
         LogChange::OldestOut => oldest(p),
     }
 }
@@ -85,15 +80,10 @@ fn handed_out(p: Purse, change: LogChange) -> Details
 pub(crate) fn answered(p: Purse, t: Turned) -> CardAnswer
     ensures { result ≡ answered_by p t }
 {
-    let head = t.head;
-    let change = t.log;
-    let message = t.message;
-    let q = record(p, head, change);
-    let e = handed_out(p, change);
     CardAnswer {
         answer: t.answer,
-        purse: q,
-        message: message,
-        entry: e,
+        purse: record(p, t.head, t.log),
+        message: t.message,
+        entry: handed_out(p, t.log),
     }
 }
