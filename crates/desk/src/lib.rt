@@ -95,7 +95,7 @@ fn append<T: Copy>(items: &mut [T; 256], count: &mut u16, item: T) -> bool
 {
     let room = *count < 256;
     if room {
-        items[*count as usize] = item;
+        items[usize::from(*count)] = item;
         *count += 1;
     }
     room

@@ -123,7 +123,7 @@ fn is_absent(log: [Details; 8], n: usize, d: Details) -> bool
 fn is_log_ok(log: [Details; 8], logged: u8, running: Details, next: Seq, own: Name) -> bool
     ensures { result ≡ log_ok own (logging log logged running next) }
 {
-    let used = logged.min(Purse::LOG_PLACES) as usize;
+    let used = usize::from(logged.min(Purse::LOG_PLACES));
     let mut ok = true;
     for i in 0..used {
         let e = log[i];

@@ -104,6 +104,6 @@ fn are_unused<T: Placed>(places: &[T]) -> bool
 pub fn are_laid<T: Placed>(places: &[T], count: u16) -> bool
     ensures { result ≡ places_ok T.is_zero 256 count places.now }
 {
-    let count = count as usize;
+    let count = usize::from(count);
     (places.len() == 256) && (count <= 256) && are_unused(&places[count..])
 }

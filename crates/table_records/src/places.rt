@@ -8,7 +8,7 @@ use purse::{Details, Name};
 pub fn place(name: Name) -> usize
     ensures { result ≡ place_of name }
 {
-    (name.0 % 32) as usize
+    usize::from(name.0 % 32)
 }
 
 // A number that equal messages, and equal entries, have in common; most others differ in it.
@@ -16,10 +16,12 @@ pub fn place(name: Name) -> usize
 pub fn key(tag: u8, d: Details) -> u32
     ensures { result ≡ key_of tag d }
 {
-    let names = d.payee.0 as u64 * 16_777_216 + d.payer.0 as u64 * 524_288 + tag as u64 * 4_194_304;
-    let rest = d.payeeseq.0 as u64
-        + d.payerseq.0 as u64 * 2_654_435_761
-        + d.amount.0 as u64 * 40_503;
+    let names = u64::from(d.payee.0) * 16_777_216
+        + u64::from(d.payer.0) * 524_288
+        + u64::from(tag) * 4_194_304;
+    let rest = u64::from(d.payeeseq.0)
+        + u64::from(d.payerseq.0) * 2_654_435_761
+        + u64::from(d.amount.0) * 40_503;
     ((names + rest) % 4_294_967_296) as u32
 }
 

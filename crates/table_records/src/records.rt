@@ -14,7 +14,7 @@ use purse::{Details, Name, Purse};
 fn used(log: &[Details; 8], logged: u8) -> &[Details]
     ensures { result.now ≡ take logged log.now }
 {
-    let count = logged as usize;
+    let count = usize::from(logged);
     &log[..count.min(8)]
 }
 
@@ -69,7 +69,7 @@ fn are_zero(records: &[Purse]) -> bool
 pub fn records_ok(table: &[Purse; 32], purses: u8) -> bool
     ensures { result ≡ records_ok purses table.now }
 {
-    let count = purses as usize;
+    let count = usize::from(purses);
     let many = count.min(32);
     let mut ok = true;
     for i in 0..many {

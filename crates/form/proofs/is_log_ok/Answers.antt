@@ -1,7 +1,7 @@
 -- `form::is_log_ok` meets its contract: each turn of the loop asks a used place more, and with the unused ones behind it that is the whole log
 -- (`log_parts`). Assumes nothing.
 use native.Mathlib.Omega.{arith}
-use mathlib.Core.Path.{◌≡◌, sym}
+use mathlib.Core.Path.{◌≡◌, sym, ◌∙◌}
 use mathlib.Core.Bool.{true}
 use Prim.Native.Nat.{◌-◌}
 use lib.ListN.{length, take, drop, length-drop}
@@ -33,7 +33,7 @@ pub returns : goal.returns
 returns c =
     let start = (goal.at.returns c).Start in
     let l = c.args.log in
-    let used = c.min-used.result in
+    let used = c.from-used.result in
     let full : c.loop-i.i ≡ used = omega arith in
     let rest : take (8 - used) (drop used l) ≡ drop used l = take_all (8 - used) (drop used l) (omega (arith, length-drop used l, long start)) in
-    rw (c.loop-i.invariant.1, full, c.is_log_unused.ensures, rest) (sym (log_parts c.args.own (told start) used (long start) c.min-used.ensures))
+    rw (c.loop-i.invariant.1, full, c.is_log_unused.ensures, rest) (sym (log_parts c.args.own (told start) used (long start) (c.from-used.ensures ∙ c.min.ensures)))

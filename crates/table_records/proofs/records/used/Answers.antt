@@ -11,4 +11,4 @@ long : (start : Start) → length start.args.log.now ≡ 8
 long start = search (rules, unmapped)
 
 pub returns : goal.returns
-returns c = rw c.min.ensures (take_least c.args.logged 8 c.args.log.now (omega (arith, long (goal.at.returns c).Start)))
+returns c = rw (c.min.ensures, c.from-count.ensures) (take_least c.args.logged 8 c.args.log.now (omega (arith, long (goal.at.returns c).Start)))
