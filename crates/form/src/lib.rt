@@ -51,11 +51,7 @@ pub fn is_entry(d: Details, own: Name, next: Seq) -> bool
 pub fn is_unused(d: Details) -> bool
     ensures { result ≡ unused d }
 {
-    (d.payer.0 == 0)
-        & (d.payerseq.0 == 0)
-        & (d.payee.0 == 0)
-        & (d.payeeseq.0 == 0)
-        & (d.amount.0 == 0)
+    d == Details::default()
 }
 
 // A log without entries, or the rest of one: each of its places unused.
@@ -71,17 +67,15 @@ fn is_status_ok(h: Head, own: Name) -> bool
     ensures { result ≡ (idle_ok (headed h) || busy_ok own (headed h)) }
 {
     let d = h.details;
-    let next = h.next;
     let running = is_named(d) & (h.logged < Purse::LOG_PLACES);
-    let status = h.status;
-    match status {
+    match h.status {
         0 => is_unused(d),
-        1 => running & ((d.amount.0 <= h.balance.0) & is_payer(d, own, next)),
+        1 => running & ((d.amount.0 <= h.balance.0) & is_payer(d, own, h.next)),
         2 => {
             let after = h.balance.0 as u64 + d.amount.0 as u64;
-            running & ((after <= h.most.0 as u64) & is_payee(d, own, next))
+            running & ((after <= h.most.0 as u64) & is_payee(d, own, h.next))
         }
-        3 => running & is_payer(d, own, next),
+        3 => running & is_payer(d, own, h.next),
         4..=255 => false,
     }
 }
@@ -138,8 +132,7 @@ pub fn well_formed(p: Purse, own: Name) -> bool
 {
     let head = is_head_ok(Head::from(p), own);
     if p.logged == 0 {
-        let log = p.log;
-        head & is_log_unused(&log)
+        head & is_log_unused(&p.log)
     } else {
         head & is_log_ok(p.log, p.logged, p.details, p.next, own)
     }
