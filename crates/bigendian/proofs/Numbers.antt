@@ -22,10 +22,6 @@ module _ (l : List ℕ) (at : ℕ) where
   unfolding number_in read_in
   number_there = read_there (number_at 4) 4 0 l at
 
-  pub number_missing : length l < at + 4 → number_in l at ≡ 0
-  unfolding number_in read_in
-  number_missing = read_missing (number_at 4) 4 0 l at
-
 -- and so is a count of two
 pub count_there : (l : List ℕ) (at : ℕ) → at + 2 ≤ length l → read_in (number_at 2) 2 0 l at ≡ number_at 2 l at
 count_there l at = read_there (number_at 2) 2 0 l at

@@ -1,19 +1,19 @@
 -- Laws of lists, over any element type: each of a number of places, each member, some member, no two the same; by the places, and of
 -- lists one after the other.
 -- Assumes nothing.
-use Prim.Native.Nat.{ℕ, zero, suc, ◌+◌, ◌-◌, ◌≤◌, ◌<◌, min}
+use Prim.Native.Nat.{ℕ, zero, suc, ◌+◌, ◌≤◌, ◌<◌, min}
 use mathlib.Core.Path.{◌≡◌, refl, ◌∙◌, sym, ap}
 use mathlib.Core.Bool.{Bool, true, false, ◌&&◌, ◌||◌, not, and-true, and-false, and_assoc, or-false, or_assoc}
 use mathlib.Core.Logic.{⊎_elim}
 use mathlib.Core.List.{List, [], ◌∷◌, ◌++◌, map}
-use lib.ListN.{length, take, drop, get_or, length-map}
-use lib.Seq.{take-suc, take_all, take-add, length-take-le, get_or-take}
+use lib.ListN.{length, take, get_or, length-map}
+use lib.Seq.{take-suc, take_all, length-take-le, get_or-take}
 use lib.Dec.{ltb, leb}
 use native.Mathlib.Numerals.{add-one}
 use native.Mathlib.Omega.{arith}
 use borrow.Author.Tests.{ltb-true, ltb-false, leb-true, leb-false}
 use Rattle.purse.specs.Lists.{every, all, among, distinct}
-use Rattle.purse.proofs.Bools.{and_l, and_r, and_i, or_inl, or_inr, which}
+use Rattle.purse.proofs.Bools.{and_l, and_r, and_i, or_inr, which}
 
 pub every_at : (f : ℕ → Bool) (n i : ℕ) → every n f ≡ true → i < n → f i ≡ true
 every_at f zero i e h = absurd (omega arith)
@@ -107,13 +107,6 @@ module _ {A : Type 0} where
   among-append same x [] t = refl
   among-append same x (y ∷ s) t =
       ap (λ (b : Bool). same x y || b) (among-append same x s t) ∙ sym (or_assoc (same x y) (among same x s) (among same x t))
-
-  -- what is among the first places is among more
-  pub among_more : (same : A → A → Bool) (x : A) (l : List A) (j n : ℕ) → j ≤ n → among same x (take j l) ≡ true → among same x (take n l) ≡ true
-  among_more same x l j n h e =
-      let k : n ≡ j + (n - j) = omega arith in
-      ap (λ (m : ℕ). among same x (take m l)) k
-      ∙ (ap (among same x) (take-add j (n - j) l) ∙ (among-append same x (take j l) (take (n - j) (drop j l)) ∙ or_inl _ _ e))
 
   pub all-next : (f : A → Bool) (l : List A) (i : ℕ) (z : A) → i < length l → all f (take (i + 1) l) ≡ (all f (take i l) && f (get_or l i z))
   all-next f l i z h =
