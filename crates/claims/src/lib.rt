@@ -10,7 +10,7 @@ ghost use Rattle.table_records.specs.Records.{entry_key, collected, record_of};
 ghost use Rattle.claims.specs.Claims.{entry_by, log_entries, payee_logged, entry_claim, log_fits};
 
 use desk::{Archive, Entry, Figure, Held};
-use purse::{Details, Name, Purse};
+use purse::{Details, Name, Purse, Refusal};
 use table_records::apart::{Placed, is_among};
 use table_records::places::place;
 use table_records::records::in_log;
@@ -130,7 +130,7 @@ pub fn claims(held: Held) -> Figure
         }
     } else {
         Figure {
-            answer: 2,
+            answer: u8::from(Refusal::NotWellFormed),
             claims: 0,
         }
     }

@@ -1,6 +1,6 @@
-// The archive's states, opened and with an entry more, and its entries.
+// The archive's states: opened, and with an entry more.
 ghost use Rattle.std.specs.Prelude.{◌≡◌};
-ghost use Rattle.desk.specs.Desk.{zero_entry, same_entry, empty_archive, stored};
+ghost use Rattle.desk.specs.Desk.{empty_archive, stored};
 
 use crate::{Archive, Entry, append};
 

@@ -1,5 +1,5 @@
 // A text under way: bytes and decimal numbers, one behind the other in a buffer that is lent.
-ghost use Rattle.std.specs.Prelude.{◌≡◌, ◌+◌, ◌≤◌, ◌++◌, length};
+ghost use Rattle.std.specs.Prelude.{◌≡◌, ◌+◌, ◌≤◌, length};
 ghost use Rattle.lines.specs.Text.{decimal, field, line_end};
 ghost use Rattle.lines.specs.Added.{Added};
 

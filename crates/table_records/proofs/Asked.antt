@@ -15,7 +15,7 @@ use borrow.Author.Tests.{eqb-false, le-leb, leb-true}
 use Rattle.std.specs.List.{list_any}
 use Rattle.purse.specs.Lists.{all, among, distinct}
 use Rattle.purse.proofs.Bools.{and_l, and_r, which, refute, nor_l, nor_r}
-use Rattle.purse.proofs.Lists.{distinct_append, distinct-next}
+use Rattle.purse.proofs.Lists.{all-next, distinct_append, distinct-next}
 use Rattle.rules.specs.Laid.{places_ok}
 
 -- the same read from the other side
@@ -101,3 +101,7 @@ module _ {A : Type 0} (zero f : A → Bool) (same eq : A → A → Bool) (alike 
       let few : n ≤ 256 = leb-true n 256 (and_r (eqb (length l) 256) (leb n 256) (and_l (eqb (length l) 256 && leb n 256) (all zero (drop n l)) (sym e ∙ k))) in
       let fits : length (take n l) ≤ 256 = omega (arith, length-take n l) in
       d ∙ rw (sym e ∙ k, sym a ∙ b, le-leb (length (take n l)) 256 fits) (ap (λ (g : A → A → Bool). distinct g (take n l)) (λ i x y. alike x y i))
+
+-- one place more
+pub one_more_lem : {A : Type 0} (f : A → Bool) (l : List A) (n : ℕ) (z : A) → n ≤ length l → (i : ℕ) {r : Bool} → i < n → all f (take i l) ≡ true → r ≡ f (get_or l i z) → r ≡ true → all f (take (i + 1) l) ≡ true
+one_more_lem f l n z fits i g a k e = all-next f l i z (omega arith) ∙ rw (a, sym k, e)

@@ -1,7 +1,7 @@
 // Abort and collect: a purse that is stopped is idle again, its running details logged where money may be under way; the oldest log entry
 // leaves the purse.
 ghost use Rattle.std.specs.Prelude.{◌≡◌, ◌<◌};
-ghost use Rattle.turns.specs.Turns.{stopped_at, aborted_at, taken_at, turned, turn_abort, turn_collect};
+ghost use Rattle.turns.specs.Turns.{stopped_at, aborted_at, turned, turn_abort, turn_collect};
 
 use super::done::{idle, quiet};
 use crate::{LogChange, Turned};

@@ -2,7 +2,12 @@
 -- Assumes nothing.
 use Prim.Native.Nat.{ℕ, ◌+◌, ◌≤◌}
 use mathlib.Core.Path.{◌≡◌, ◌∙◌}
-use mathlib.Core.Bool.{true}
+use mathlib.Core.Bool.{true, false, not}
+use mathlib.Core.Logic.{⊎_elim}
+use lib.Dec.{ltb}
+use Rattle.purse.specs.Tests.{after}
+use Rattle.purse.proofs.Bools.{which}
+use Rattle.layout.specs.Calls.{write_number}
 use mathlib.Core.List.{List, ◌++◌}
 use lib.ListN.{length, drop}
 use native.Mathlib.Nat.{zero-add}
@@ -21,3 +26,9 @@ pub put_at_start : (out image : List ℕ) → length image ≤ length out → pu
 put_at_start out image h =
     let room : 0 + length image ≤ length out = rw zero-add h in
     put_eq out 0 image room ∙ rw zero-add
+
+-- the tests of writing, one by one: the second looks at the counts alone, which matters only where the first has passed
+pub write_number_lem : (h : Held) (out : List ℕ) → after (after 0 (not (held_ok h)) 2) (ltb (length out) (image_length h.desk.purses h.desk.ether.count h.desk.archive.count)) 19 ≡ write_number h out
+unfolding write_number
+write_number_lem h out =
+    ⊎_elim (λ (w : held_ok h ≡ true). rw (w, held-length h w)) (λ (w : held_ok h ≡ false). rw w) (which (held_ok h))

@@ -1,0 +1,4 @@
+pub mod Elements
+pub mod Lent
+pub mod Over
+pub mod Parts
