@@ -24,7 +24,9 @@ LAWS = {"one": 1, "two": 2, "three": 3, "four": 4}
 LAWS_FILE = "crates/purse/proofs/Unique.antt"
 # The law of a check: its contract gives the number of its result, and each reason to refuse has its own.
 ANSWER, ANSWER_FILE = "one_answer", "crates/purse/proofs/Reasons.antt"
-NO_CONTRACT = [("crates/stream/src/lib.rt", "list"), ("crates/stream/src/lib.rt", "fill"), ("crates/stream/src/failure.rt", "tell")]
+NO_CONTRACT = [("crates/stream/src/failure.rt", "tell")]
+# What reads or writes: its contract says what it can of bytes that are known, and is no equation.
+STREAMS = re.compile(r"<[^>]*\b(?:Read|Write)\b")
 
 # A function's parameters, the left sides that its equations must have, its equations, what it compares besides, and all else in its contract.
 Contract = collections.namedtuple("Contract", "parameters wanted equations besides rest")
@@ -260,6 +262,10 @@ def faults(path, name, text, rows, exceptions):
     if (file, name) in NO_CONTRACT:
         if not is_excepted:
             yield "has no contract and does not stand under Exceptions"
+        return
+    if STREAMS.search(text.partition("(")[0]):
+        if not is_excepted or "ensures" not in text.partition("\n{")[0]:
+            yield "reads or writes, and has no contract or does not stand under Exceptions"
         return
     if not HEADER.match(text):
         yield "has a head in another layout"
