@@ -79,7 +79,7 @@ def edits():
 
 def public(library):
     """The public functions of a library, each as its file, its name and the file's text from there on: those of lib.rt and of its public
-    modules, those that it uses publicly, and the methods of its types."""
+    modules, those that it uses publicly, and the methods of its types and of its public traits, which every impl meets."""
     text = library.read_text()
     used = {
         (module, name)
@@ -89,9 +89,14 @@ def public(library):
     modules = [("lib", True)] + [(name, bool(is_public)) for is_public, name in re.findall(r"^(pub )?mod (\w+);", text, re.M)]
     for module, is_public in modules:
         path = library.parent / f"{module}.rt"
-        in_impl = False
+        in_impl = in_trait = False
         lines = path.read_text().splitlines()
         for at, line in enumerate(lines):
+            in_trait = line.startswith("pub trait ") or (in_trait and not line.startswith("}"))
+            method = in_trait and re.match(r"    fn (\w+)", line)
+            if method:
+                end = next(to for to in range(at, len(lines)) if lines[to].endswith(";"))
+                yield path, method.group(1), "\n".join(["pub " + line.strip(), *lines[at + 1 : end + 1]]).rstrip(";").replace("\n    ", "\n") + "\n{"
             in_impl = bool(re.match(r"impl\b", line)) or (in_impl and not line.startswith("}"))
             match = FUNCTION.match(line)
             if match and (is_public or in_impl or (module, match.group(1)) in used):
