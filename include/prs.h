@@ -40,12 +40,12 @@ extern "C" {
 
 /* The stack of each entry in bytes, measured by benchmarks/run and rounded up. */
 #define PRS_STACK_CARD 1408
-#define PRS_STACK_OPENING 51200
-#define PRS_STACK_EVENT 59392
-#define PRS_STACK_RUN 138240
-#define PRS_STACK_CLAIMS 83968
-#define PRS_STACK_WRITE 82944
-#define PRS_STACK_READ 113664
+#define PRS_STACK_OPENING 31744
+#define PRS_STACK_EVENT 46592
+#define PRS_STACK_RUN 131584
+#define PRS_STACK_CLAIMS 59904
+#define PRS_STACK_WRITE 57856
+#define PRS_STACK_READ 106496
 
 /* What a call answers. */
 enum prs_answer {
