@@ -50,4 +50,4 @@ returns-then-held_ok c = simp (obeys (goal.at.returns-then-held_ok c).Then-held_
 
 pub returns-else-held_ok : goal.returns-else-held_ok
 unfolding held_claims
-returns-else-held_ok c = simp (sym c.held_ok.ensures ∙ c.if-held_ok.false)
+returns-else-held_ok c = simp (c.from.ensures, sym c.held_ok.ensures ∙ c.if-held_ok.false)
