@@ -41,10 +41,10 @@ extern "C" {
 /* The stack of each entry in bytes, measured by benchmarks/run and rounded up. */
 #define PRS_STACK_CARD 1408
 #define PRS_STACK_OPENING 31744
-#define PRS_STACK_EVENT 46592
+#define PRS_STACK_EVENT 15872
 #define PRS_STACK_RUN 131584
-#define PRS_STACK_CLAIMS 59904
-#define PRS_STACK_WRITE 57856
+#define PRS_STACK_CLAIMS 41472
+#define PRS_STACK_WRITE 39424
 #define PRS_STACK_READ 106496
 
 /* What a call answers. */

@@ -2,8 +2,9 @@
 """Holds README.md and docs/ to the crates, and every contract to the theorem that it leaves one result. Every link's file must be there, and
 where the link's words are a name in backquotes, the file must say that name. Every must-fail edit must have a link from docs/, and each of
 its old texts must stand once in its file. Every public function must have its row in docs/CONTRACTS.md and a contract that asks nothing and
-has one equation for its result (a check: for its number) and one for each part lent as &mut, with a right side that speaks of the arguments alone; what says more must
-stand under the page's Exceptions. The theorem of its row must be the general law for that many equations, or one of its own that says, word
+has one equation for its result (a check: for its number) and one for each part lent as &mut, with a right side that speaks of the arguments
+alone; what says more must stand under the page's Exceptions. What reads or writes must say, word by word, what is written here of it, and a
+conversion what it gives. The theorem of its row must be the general law for that many equations, or one of its own that says, word
 by word and by the same definitions, that two results and contents of which the equations hold are equal. Last line 'N passed, M failed';
 exit status 1 on any failure."""
 import collections
@@ -25,8 +26,18 @@ LAWS_FILE = "crates/purse/proofs/Unique.antt"
 # The law of a check: its contract gives the number of its result, and each reason to refuse has its own.
 ANSWER, ANSWER_FILE = "one_answer", "crates/purse/proofs/Reasons.antt"
 NO_CONTRACT = [("crates/stream/src/failure.rt", "tell")]
-# What reads or writes: its contract says what it can of bytes that are known, and is no equation.
-STREAMS = re.compile(r"<[^>]*\b(?:Read|Write)\b")
+# What reads or writes is no equation: it asks nothing, and says just this of bytes that are known.
+STREAMS = {
+    ("crates/stream/src/lib.rt", "fill"): [
+        "IfOk result (λ n. n ≤ length bytes′)",
+        "length bytes′ ≡ length bytes",
+        "IfOk result (λ n. Consumes (R.remaining from) (R.remaining from′) (take n bytes′))",
+        "IfOk result (λ n. n < length bytes′ → IsAtEnd (R.remaining from′))",
+    ],
+    ("crates/stream/src/lib.rt", "list"): ["OnOk result (Lists (R.remaining from) (W.contents to) (W.contents to′))"],
+}
+# A conversion: what it gives, by what it is told alone.
+CONVERSION = re.compile(r"^    ghost from_gives = \{ λ (\w+) (\w+)\. \2 ≡ (?!.*\b\2\b)[\w .()]+ \};$", re.M)
 
 # A function's parameters, the left sides that its equations must have, its equations, what it compares besides, and all else in its contract.
 Contract = collections.namedtuple("Contract", "parameters wanted equations besides rest")
@@ -79,7 +90,7 @@ def edits():
 
 def public(library):
     """The public functions of a library, each as its file, its name and the file's text from there on: those of lib.rt and of its public
-    modules, those that it uses publicly, and the methods of its types and of its public traits, which every impl meets."""
+    modules, those that it uses publicly, the methods of its types and of its public traits, which every impl meets, and its conversions."""
     text = library.read_text()
     used = {
         (module, name)
@@ -98,6 +109,8 @@ def public(library):
                 end = next(to for to in range(at, len(lines)) if lines[to].endswith(";"))
                 yield path, method.group(1), "\n".join(["pub " + line.strip(), *lines[at + 1 : end + 1]]).rstrip(";").replace("\n    ", "\n") + "\n{"
             in_impl = bool(re.match(r"impl\b", line)) or (in_impl and not line.startswith("}"))
+            if line.startswith("impl From<"):
+                yield path, "from", "\n".join(lines[at : lines.index("}", at)])
             match = FUNCTION.match(line)
             if match and (is_public or in_impl or (module, match.group(1)) in used):
                 yield path, match.group(1), "\n".join(lines[at:])
@@ -196,10 +209,15 @@ def fields(struct):
     return []
 
 
+def parameters_of(arguments):
+    """Each parameter's name, and how it stands in the head."""
+    return {re.findall(r"\w+", argument.split(":")[0])[-1]: argument for argument in arguments.split(",") if argument.strip()}
+
+
 def contract(path, text):
     """The contract of the function that starts a text, out of its file."""
     _, arguments, result, clauses = HEADER.match(text).groups()
-    parameters = {re.findall(r"\w+", argument.split(":")[0])[-1]: argument for argument in arguments.split(",") if argument.strip()}
+    parameters = parameters_of(arguments)
     said, others = clauses_of(plain(clauses or "", parameters))
     facts = [conjunct for fact in said for conjunct in conjuncts(fact, uses(path))]
     equations = [equation(fact) for fact in facts if equation(fact)]
@@ -268,9 +286,16 @@ def faults(path, name, text, rows, exceptions):
         if not is_excepted:
             yield "has no contract and does not stand under Exceptions"
         return
-    if STREAMS.search(text.partition("(")[0]):
-        if not is_excepted or "ensures" not in text.partition("\n{")[0]:
-            yield "reads or writes, and has no contract or does not stand under Exceptions"
+    if (file, name) in STREAMS:
+        head = HEADER.match(text)
+        if not is_excepted or not head or clauses_of(plain(head[4] or "", parameters_of(head[2]))) != (STREAMS[file, name], []):
+            yield "reads or writes, and has another contract or does not stand under Exceptions"
+        return
+    if text.startswith("impl From<"):
+        if not CONVERSION.search(text):
+            yield "does not say what it gives"
+        if not any(f"`{name}`" in functions and f"(../{file})" in functions and "[`one`]" in cell for functions, cell in rows):
+            yield "has no row with a theorem"
         return
     if not HEADER.match(text):
         yield "has a head in another layout"

@@ -50,7 +50,10 @@ pub(crate) fn each(held: Held, input: &[u8], answers: &mut [u8], n: usize) -> He
                     ether = changed.ether;
                     answer = u8::from(changed.lost);
                 }
-                Change::Lose(at) => ether = ether.take_out(at as usize).ether,
+                Change::Lose(at) => {
+                    let changed = ether.take_out(at as usize);
+                    ether = changed.ether;
+                }
                 Change::Store(entry) => archive = archive.store(entry),
                 Change::Issue => purses = one_more(purses),
             }

@@ -114,7 +114,7 @@ fn sum_of_logs(purses: u8, books: Books) -> u64
 pub fn claims(held: Held) -> Figure
     ensures { result ≡ held_claims held }
 {
-    if table::held_ok(held) {
+    if table::lent_ok(&held.table, &held.desk) {
         let archive = &held.desk.archive;
         let keys = keys_of(&archive.places);
         let books = Books {

@@ -1,2 +1,3 @@
 mod Moved
 pub mod Equal
+pub mod Zeros

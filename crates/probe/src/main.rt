@@ -71,17 +71,25 @@ fn reply(rt: &impl Print, answer: u8, held: Held) -> Result<(), End> {
     Ok(())
 }
 
+// The requests over a state. None is put in line: a function pays at its entry for all that it may hold, and a card's request is short.
+
 // An event: length 1, that many bytes.
-fn event(rt: &HostRuntime, held: Held, space: &mut [u8]) -> Result<(), End> {
+#[inline(never)]
+fn event(rt: &HostRuntime) -> Result<(), End> {
+    let held = state(rt)?;
     let n = short_length(rt)?;
-    let answered = bench::event(held, filled(rt, space, n)?);
+    let mut space = [0; 255];
+    let answered = bench::event(held, filled(rt, &mut space, n)?);
     reply(rt, answered.answer, answered.held)
 }
 
 // An opening: number of balances 1, 4 bytes each.
-fn opening(rt: &HostRuntime, held: Held, space: &mut [u8]) -> Result<(), End> {
+#[inline(never)]
+fn opening(rt: &HostRuntime) -> Result<(), End> {
+    let held = state(rt)?;
     let n = short_length(rt)?;
-    let bytes = filled(rt, space, NUMBER_WIDTH * n)?;
+    let mut space = [0; 255 * NUMBER_WIDTH];
+    let bytes = filled(rt, &mut space, NUMBER_WIDTH * n)?;
     let mut balances = [0; 256];
     for (balance, number) in balances.iter_mut().zip(bytes.chunks_exact(NUMBER_WIDTH)) {
         *balance = number_at(number, 0);
@@ -91,15 +99,21 @@ fn opening(rt: &HostRuntime, held: Held, space: &mut [u8]) -> Result<(), End> {
 }
 
 // A read: length 2, image bytes.
-fn read(rt: &HostRuntime, held: Held, space: &mut [u8]) -> Result<(), End> {
+#[inline(never)]
+fn read(rt: &HostRuntime) -> Result<(), End> {
+    let held = state(rt)?;
     let n = length(rt)?;
-    let answered = image::read(held, filled(rt, space, n)?);
+    let mut space = [0; 65535];
+    let answered = image::read(held, filled(rt, &mut space, n)?);
     reply(rt, answered.answer, answered.held)
 }
 
 // A write: buffer length 2. The buffer is filled with AA hex.
-fn write(rt: &HostRuntime, held: Held, space: &mut [u8]) -> Result<(), End> {
+#[inline(never)]
+fn write(rt: &HostRuntime) -> Result<(), End> {
+    let held = state(rt)?;
     let n = length(rt)?;
+    let mut space = [0xAA; 65535];
     let out = space.get_mut(..n).ok_or(End::NoRequest)?;
     let written = image::write(held, out);
     let mut head = [written.answer, 0, 0];
@@ -109,8 +123,9 @@ fn write(rt: &HostRuntime, held: Held, space: &mut [u8]) -> Result<(), End> {
     Ok(())
 }
 
-fn claims(rt: &impl Print, held: Held) -> Result<(), End> {
-    let figure = claims::claims(held);
+#[inline(never)]
+fn claims(rt: &HostRuntime) -> Result<(), End> {
+    let figure = claims::claims(state(rt)?);
     let mut out = [figure.answer, 0, 0, 0, 0];
     put_number(&mut out, BYTE_WIDTH, figure.claims);
     rt.write_all(&out)?;
@@ -172,13 +187,12 @@ fn card_step(rt: &HostRuntime) -> Result<(), End> {
 // One request and its reply.
 fn request(rt: &HostRuntime) -> Result<(), End> {
     let [letter]: [u8; 1] = next(rt)?;
-    let mut space = [0xAA; 65535];
     match letter {
-        b'C' => claims(rt, state(rt)?),
-        b'E' => event(rt, state(rt)?, &mut space),
-        b'O' => opening(rt, state(rt)?, &mut space),
-        b'R' => read(rt, state(rt)?, &mut space),
-        b'W' => write(rt, state(rt)?, &mut space),
+        b'C' => claims(rt),
+        b'E' => event(rt),
+        b'O' => opening(rt),
+        b'R' => read(rt),
+        b'W' => write(rt),
         b'P' => card_step(rt),
         _ => Err(End::NoRequest),
     }

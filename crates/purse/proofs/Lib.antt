@@ -17,3 +17,4 @@ pub mod Unique
 pub mod Edges
 pub mod Refusals
 pub mod Equal
+pub mod Zeros

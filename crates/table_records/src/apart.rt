@@ -94,10 +94,15 @@ pub fn are_apart<T: Placed>(used: &[T]) -> bool
     true
 }
 
+// Whether each place is unused. There is no way out before the last: most calls go through them all, and are quicker so.
 fn are_unused<T: Placed>(places: &[T]) -> bool
     ensures { result ≡ all T.is_zero places.now }
 {
-    places.iter().all(|x| x.is_unused())
+    let mut ok = true;
+    for x in places {
+        ok &= x.is_unused();
+    }
+    ok
 }
 
 // Whether there are 256 places, the count within them, and the places behind it unused.

@@ -6,9 +6,9 @@ ghost use Rattle.std.specs.Prelude.{◌≡◌};
 ghost use Rattle.rules.specs.Laid.{held_ok};
 ghost use Rattle.walk_table.specs.Lent.{held, copied_of};
 
-use desk::{Desk, Held};
+use desk::Desk;
 use purse::Purse;
-use table::held_ok;
+use table::lent_ok;
 
 // The records of a lent table of 32. For another length a table of unused records, which breaks the rules.
 #[tactic(auto, unfolding(crate::specs::Lent::copied_of))]
@@ -27,8 +27,5 @@ pub fn copied(table: &[Purse]) -> [Purse; 32]
 pub fn table_ok(table: &[Purse], desk: &Desk) -> bool
     ensures { result ≡ held_ok (held table.now desk.now) }
 {
-    held_ok(Held {
-        table: copied(table),
-        desk: *desk,
-    })
+    lent_ok(&copied(table), desk)
 }

@@ -18,7 +18,7 @@ use layout::widths::{
 use layout::{VERSION, Written, image_length};
 use parts::put_all;
 use purse::{Refusal, refuse_if};
-use table::held_ok;
+use table::lent_ok;
 
 // Mark, version, purse count, message count, archive count.
 fn put_head(out: &mut [u8], desk: &Desk)
@@ -59,7 +59,7 @@ fn put_bench(out: &mut [u8], held: &Held)
 fn put_image(held: &Held, out: &mut [u8]) -> Result<usize, Refusal>
     ensures { (written_of result ≡ held_write held.now out.old) × (out.new ≡ held_buffer held.now out.old) }
 {
-    refuse_if(!held_ok(*held), Refusal::NotWellFormed)?;
+    refuse_if(!lent_ok(&held.table, &held.desk), Refusal::NotWellFormed)?;
     let length = image_length(
         held.desk.purses,
         held.desk.ether.count,

@@ -1,14 +1,17 @@
 -- `form::is_log_ok` meets its contract: each turn of the loop asks a used place more, and with the unused ones behind it that is the whole log
 -- (`log_parts`). Assumes nothing.
 use native.Mathlib.Omega.{arith}
-use mathlib.Core.Path.{◌≡◌, sym, ◌∙◌}
+use mathlib.Core.Path.{◌≡◌, sym, ap, ◌∙◌}
+use mathlib.Core.List.{List}
+use Rattle.purse.specs.Lists.{all}
+use Rattle.purse.specs.declared.Details.{Details}
 use mathlib.Core.Bool.{true}
 use Prim.Native.Nat.{◌-◌}
 use lib.ListN.{length, take, drop, length-drop}
 use lib.Seq.{take_all}
 use Rattle.purse.specs.declared.Purse.{Purse}
 use Rattle.purse.proofs.Walks.{more_every}
-use Rattle.form.specs.Form.{logging}
+use Rattle.form.specs.Form.{logging, unused}
 use Rattle.form.proofs.Parts.{used_at, log_parts}
 use Rattle.form.proofs.is_log_ok.Goals as goal
 use Rattle.form.proofs.is_log_ok.Goals.{Start}
@@ -35,5 +38,5 @@ returns c =
     let l = c.args.log in
     let used = c.from-used.result in
     let full : c.loop-i.i ≡ used = omega arith in
-    let rest : take (8 - used) (drop used l) ≡ drop used l = take_all (8 - used) (drop used l) (omega (arith, length-drop used l, long start)) in
-    rw (c.loop-i.invariant.1, full, c.is_log_unused.ensures, rest) (sym (log_parts c.args.own (told start) used (long start) (c.from-used.ensures ∙ c.min.ensures)))
+    let behind = c.is_log_unused.ensures ∙ ap (λ (xs : List Details). all unused xs) (take_all _ (drop used l) (omega (arith, length-drop used l, long start))) in
+    rw (c.loop-i.invariant.1, full, behind) (sym (log_parts c.args.own (told start) used (long start) (c.from-used.ensures ∙ c.min.ensures)))

@@ -54,7 +54,7 @@ loop-i-preserved c =
           (when_sent h k a t w.if-moves.true _ (at_any h.table k _ zero_purse inside) _ w.record.ensures _ w.change_of.ensures _ w.add-changed.result _ w.in-Send.is w.add-changed.ensures w.from-answer.ensures)
       | then-moves+in-Lose w ↦
           rw (w.table-is, w.purses-is, w.ether-is, w.archive-is, w.answer-is)
-          (when_lost h k a t w.if-moves.true _ (at_any h.table k _ zero_purse inside) _ w.record.ensures _ w.change_of.ensures _ w.take_out.result w.in-Lose.is w.take_out.ensures)
+          (when_lost h k a t w.if-moves.true _ (at_any h.table k _ zero_purse inside) _ w.record.ensures _ w.change_of.ensures _ w.take_out-changed.result w.in-Lose.is w.take_out-changed.ensures)
       | then-moves+in-Store w ↦
           rw (w.table-is, w.purses-is, w.ether-is, w.archive-is, w.answer-is)
           (when-stored h k a t w.if-moves.true _ (at_any h.table k _ zero_purse inside) _ w.record.ensures _ w.change_of.ensures _ w.store-archive.result w.in-Store.is w.store-archive.ensures)

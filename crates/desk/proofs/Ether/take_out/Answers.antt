@@ -12,5 +12,5 @@ returns-then-stand-le256 c =
     let l = c.args.self.places in
     let long : length l ≡ 256 = search rules in
     let zero : c.default.result ≡ zero_message = search rules in
-    let out : set c.copy_within.new.self 255 c.default.result ≡ pulled c.args.at zero_message l = rw (c.copy_within.ensures.after, zero) (moved l c.args.at 255 zero_message long (omega arith)) in
+    let out : set c.copy_within.new.self 255 c.default.result ≡ pulled c.args.at zero_message l = rw (c.copy_within.ensures.after, zero) (moved l c.args.at 255 _ zero_message long (omega (arith, long)) (omega arith)) in
     rw (lt-ltb _ _ c.if-at-stand.true, le-leb _ _ c.if-stand-le256.true, out)
